@@ -1,0 +1,62 @@
+-- Laws of the matrix and of what the steps do to it, place by place. Assumes nothing.
+-- the largest: it is one of the numbers, and none has more
+use Prim.Native.Nat.{ℕ, zero, suc, _≤_, _<_, max}
+use mathlib.Core.Bool.{cond}
+use mathlib.Core.Logic.{_≢_}
+use mathlib.Core.Path.{_≡_, _∙_}
+use native.Mathlib.Decide.{ℕ-discrete}
+use native.Mathlib.Nat.{not-suc-le-zero}
+use native.Mathlib.Omega.{arith}
+use lib.Dec.{nltb→le, eqb, ltb, ltb→lt}
+use Rattle.matrix.specs.Matrix.{largest, merge, Matrix, nonZero, only, clear}
+use Rattle.wire.proofs.Tests.{cond-same, cond-other, cond-elim}
+
+pub largest-lt : (k : ℕ) (g : ℕ → ℕ) → largest (suc k) g < suc k
+largest-lt zero g = cond-elim (λ (z : ℕ). z < 1) (ltb (g 0) (g 0)) 0 0 (λ t. omega arith) (λ t. omega arith)
+largest-lt (suc k) g = cond-elim (λ (z : ℕ). z < suc (suc k)) (ltb (g (largest (suc k) g)) (g (suc k))) (suc k) (largest (suc k) g) (λ t. omega arith) (λ t. omega (arith, largest-lt k g))
+
+pub largest-le : (k : ℕ) (g : ℕ → ℕ) (x : ℕ) → x < k → g x ≤ g (largest k g)
+largest-le zero g x h = absurd (not-suc-le-zero h)
+largest-le (suc k) g x h =
+    cond-elim (λ (z : ℕ). g x ≤ g z) (ltb (g (largest k g)) (g k)) k (largest k g) (λ t. yes-case (largest-le k g x) (ltb→lt (g (largest k g)) (g k) t) (ℕ-discrete x k)) (λ t. no-case (largest-le k g x) (nltb→le (g (largest k g)) (g k) t) (ℕ-discrete x k))
+  where
+    yes-case : (x < k → g x ≤ g (largest k g)) → g (largest k g) < g k → Dec (x ≡ k) → g x ≤ g k
+    yes-case ih l (yes e) = rw e (omega arith)
+    yes-case ih l (no e) = omega (arith, ih (omega arith))
+
+    no-case : (x < k → g x ≤ g (largest k g)) → g k ≤ g (largest k g) → Dec (x ≡ k) → g x ≤ g (largest k g)
+    no-case ih l (yes e) = rw e l
+    no-case ih l (no e) = ih (omega arith)
+
+-- a column cleared, a column alone, and a merge, place by place
+pub clear-mine : (i j : ℕ) (m : Matrix) → clear i j m i j ≡ suc (m i j)
+unfolding clear
+clear-mine i j m = cond-same j (cond (eqb i i) (suc (m i j)) 0) (m i j) ∙ cond-same i (suc (m i j)) 0
+
+pub clear-gone : (i j : ℕ) (m : Matrix) (x : ℕ) → x ≢ i → clear i j m x j ≡ 0
+unfolding clear
+clear-gone i j m x h = cond-same j (cond (eqb x i) (suc (m i j)) 0) (m x j) ∙ cond-other x i (suc (m i j)) 0 h
+
+pub clear-keep : (i j : ℕ) (m : Matrix) (x y : ℕ) → y ≢ j → clear i j m x y ≡ m x y
+unfolding clear
+clear-keep i j m x y h = cond-other y j (cond (eqb x i) (suc (m i j)) 0) (m x y) h
+
+pub only-col : (l : ℕ) (m : Matrix) (x : ℕ) → only l m x l ≡ m x l
+unfolding only
+only-col l m x = cond-same l (m x l) 0
+
+pub only-zero : (l : ℕ) (m : Matrix) (x y : ℕ) → y ≢ l → only l m x y ≡ 0
+unfolding only
+only-zero l m x y h = cond-other y l (m x y) 0 h
+
+pub merge-own : (j : ℕ) (m e : Matrix) (x : ℕ) → merge j m e x j ≡ m x j
+unfolding merge
+merge-own j m e x = cond-same j (m x j) (max (m x j) (e x j))
+
+pub merge-max : (j : ℕ) (m e : Matrix) (x y : ℕ) → y ≢ j → merge j m e x y ≡ max (m x y) (e x y)
+unfolding merge
+merge-max j m e x y h = cond-other y j (m x y) (max (m x y) (e x y)) h
+
+pub nonZero-le : (v : ℕ) → nonZero v ≤ 1
+nonZero-le zero = omega arith
+nonZero-le (suc v) = omega arith

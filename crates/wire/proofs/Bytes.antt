@@ -1,0 +1,100 @@
+-- Laws of bytes written over a list, of the rest of a list in a loop, and of little-endian fields. Assumes nothing.
+use Prim.Native.Nat.{ℕ, suc, _+_, _*_, _/_, _%_, _≤_, _<_}
+use mathlib.Core.Path.{_≡_, refl, ap, sym, _∙_}
+use mathlib.Core.List.{List, [], _∷_, _++_}
+use native.Mathlib.Nat.{add-zero, add-assoc, div-div-eq-div-mul, div-add-mod, mod-eq-of-lt}
+use native.Mathlib.Numerals.{add-one}
+use native.Mathlib.Omega.{arith}
+use lib.ListN.{length, take, drop, getD, set, length-set, take-append-drop}
+use lib.Seq.{drop-cons, drop-length, take-set-le, drop-set-lt, take-suc-set, append-snoc, length-take-le, drop-at, take-append-seam}
+use Rattle.wire.specs.Bytes.{put, le16, le32, u16At, u32At}
+
+-- the rest of a list, one element further, in the form `i + 1` of the code
+pub rest : (s : List ℕ) (i : ℕ) → i < length s → drop i s ≡ getD s i 0 ∷ drop (i + 1) s
+rest s i h = rw (add-one, drop-cons s i 0)
+
+pub rest-end : (s : List ℕ) (i : ℕ) → length s ≤ i → i ≤ length s → drop i s ≡ []
+rest-end s i h l = let e : i ≡ length s = omega arith in rw (e, drop-length)
+
+-- nothing written, one byte written, and a run of bytes written in two parts
+pub put-nil : (o : List ℕ) (at : ℕ) → put o at [] ≡ o
+unfolding put
+put-nil o at = refl
+
+pub length-put : (o : List ℕ) (at : ℕ) (bs : List ℕ) → length (put o at bs) ≡ length o
+unfolding put
+length-put o at [] = refl
+length-put o at (b ∷ bs) = length-put (set o at b) (at + 1) bs ∙ length-set o at b
+
+pub put-append : (o : List ℕ) (at : ℕ) (xs ys : List ℕ) → put o at (xs ++ ys) ≡ put (put o at xs) (at + length xs) ys
+unfolding put
+put-append o at [] ys = rw add-zero
+put-append o at (x ∷ xs) ys =
+    let e : at + suc (length xs) ≡ at + 1 + length xs = omega arith in
+    rw e (put-append (set o at x) (at + 1) xs ys)
+
+-- one byte more of a list that is written
+pub put-rest : (o : List ℕ) (at : ℕ) (s : List ℕ) (i : ℕ) → i < length s
+    → put o (at + i) (drop i s) ≡ put (set o (at + i) (getD s i 0)) (at + (i + 1)) (drop (i + 1) s)
+unfolding put
+put-rest o at s i h = rw (rest s i h) (ap (λ (k : ℕ). put (set o (at + i) (getD s i 0)) k (drop (i + 1) s)) (add-assoc at i 1))
+
+-- what stands past the bytes written is as before
+pub drop-put : (n : ℕ) (o : List ℕ) (at : ℕ) (bs : List ℕ) → at + length bs ≤ n → drop n (put o at bs) ≡ drop n o
+unfolding put
+drop-put n o at [] h = refl
+drop-put n o at (b ∷ bs) h = drop-put n (set o at b) (at + 1) bs (omega arith) ∙ drop-set-lt n o at b (omega arith)
+
+-- the bytes written, between what stood before and behind them
+pub put-eq : (o : List ℕ) (at : ℕ) (bs : List ℕ) → at + length bs ≤ length o → put o at bs ≡ take at o ++ (bs ++ drop (at + length bs) o)
+unfolding put
+put-eq o at [] h = rw add-zero (sym (take-append-drop at o))
+put-eq o at (b ∷ bs) h =
+    let k : at + 1 + length bs ≤ length (set o at b) = simp length-set (omega arith) in
+    let e : at + 1 + length bs ≡ at + suc (length bs) = omega arith in
+    let l : at < length o = omega arith in
+    put-eq (set o at b) (at + 1) bs k ∙ rw (drop-set-lt (at + 1 + length bs) o at b (omega arith), e, add-one, take-suc-set o at b l, append-snoc)
+
+-- the bytes stand where they were written
+pub put-back : (o : List ℕ) (at : ℕ) (bs : List ℕ) → at + length bs ≤ length o → take (length bs) (drop at (put o at bs)) ≡ bs
+put-back o at bs h =
+    let l : length (take at o) ≡ at = length-take-le at o (omega arith) in
+    rw (put-eq o at bs h, drop-at (take at o) (bs ++ drop (at + length bs) o) at l, take-append-seam)
+
+-- a number's two bytes, and its four, make the number
+pub two-bytes : (v : ℕ) → v < 65536 → v % 256 + 256 * (v / 256 % 256) ≡ v
+two-bytes v h = omega arith
+
+pub four-bytes : (v : ℕ) → v < 4294967296 → v % 256 + 256 * (v / 256 % 256) + 65536 * (v / 65536 % 256) + 16777216 * (v / 16777216 % 256) ≡ v
+four-bytes v l =
+    let t : v / 16777216 % 256 ≡ v / 16777216 = mod-eq-of-lt (omega arith) in
+    let a : 256 * (v / 65536) + v / 256 % 256 ≡ v / 256 = rw (← div-div-eq-div-mul v 256 256) (div-add-mod (v / 256) 256) in
+    let b : 256 * (v / 16777216) + v / 65536 % 256 ≡ v / 65536 = rw (← div-div-eq-div-mul v 65536 256) (div-add-mod (v / 65536) 256) in
+    omega (arith, div-add-mod v 256)
+
+-- the bytes of the number of two bytes, and of four, are these bytes
+pub two-back : (a b : ℕ) → a < 256 → b < 256 → le16 (a + 256 * b) ≡ a ∷ b ∷ []
+unfolding le16
+two-back a b h k =
+    let p : (a + 256 * b) % 256 ≡ a = omega arith in
+    let d : (a + 256 * b) / 256 ≡ b = omega arith in
+    rw (p, d, mod-eq-of-lt k)
+
+pub four-back : (a b c d : ℕ) → a < 256 → b < 256 → c < 256 → d < 256 → le32 (a + 256 * b + 65536 * c + 16777216 * d) ≡ a ∷ b ∷ c ∷ d ∷ []
+unfolding le32
+four-back a b c d ha hb hc hd =
+    let p : (a + 256 * b + 65536 * c + 16777216 * d) % 256 ≡ a = omega arith in
+    let q : (a + 256 * b + 65536 * c + 16777216 * d) / 256 ≡ b + 256 * c + 65536 * d = omega arith in
+    let q′ : (b + 256 * c + 65536 * d) % 256 ≡ b = omega arith in
+    let r : (a + 256 * b + 65536 * c + 16777216 * d) / 65536 ≡ c + 256 * d = omega arith in
+    let r′ : (c + 256 * d) % 256 ≡ c = omega arith in
+    let t : (a + 256 * b + 65536 * c + 16777216 * d) / 16777216 ≡ d = omega arith in
+    rw (p, q, q′, r, r′, t, mod-eq-of-lt hd)
+
+pub length-le16 : (v : ℕ) → length (le16 v) ≡ 2
+unfolding le16
+length-le16 v = refl
+
+pub length-le32 : (v : ℕ) → length (le32 v) ≡ 4
+unfolding le32
+length-le32 v = refl

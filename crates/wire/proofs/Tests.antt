@@ -1,0 +1,90 @@
+-- Tests: what a Boolean test tells, as the type `T b` of its proofs, choices by a test, and the results of tests that functions made. Assumes nothing.
+use Prim.Native.Nat.{ℕ, suc, _≤_, _<_}
+use mathlib.Core.Bool.{Bool, true, false, not, cond, _&&_, _||_}
+use mathlib.Core.Logic.{_⊎_, inl, inr, _≢_}
+use mathlib.Core.Path.{_≡_, refl, sym, subst, _∙_}
+use native.Mathlib.Omega.{arith}
+use borrow.Author.Tests.{not-true, not-false}
+use lib.Dec.{T, eqb, ltb, eqb→eq, eqb-refl, T-not, leb→le, leb, not-T}
+
+pub is-true : (b : Bool) → T b → b ≡ true
+is-true true t = refl
+is-true false t = absurd t
+
+pub is-false : (b : Bool) → T (not b) → b ≡ false
+is-false true t = absurd t
+is-false false t = refl
+
+pub of-true : (b : Bool) → b ≡ true → T b
+of-true b e = rw e tt
+
+pub of-false : (b : Bool) → b ≡ false → T (not b)
+of-false b e = rw e tt
+
+pub not-not : (b : Bool) → T (not (not b)) → T b
+not-not true t = tt
+not-not false t = absurd t
+
+pub decide : (b : Bool) → T b ⊎ T (not b)
+decide true = inl tt
+decide false = inr tt
+
+pub cond-elim : {A : Type 0} (P : A → Type 0) (b : Bool) (x y : A) → (T b → P x) → (T (not b) → P y) → P (cond b x y)
+cond-elim P true x y f g = f tt
+cond-elim P false x y f g = g tt
+
+pub cond-yes : {A : Type 0} (b : Bool) (x y : A) → T b → cond b x y ≡ x
+cond-yes true x y t = refl
+cond-yes false x y t = absurd t
+
+pub cond-no : {A : Type 0} (b : Bool) (x y : A) → T (not b) → cond b x y ≡ y
+cond-no true x y t = absurd t
+cond-no false x y t = refl
+
+pub neqb→ne : (m n : ℕ) → T (not (eqb m n)) → m ≢ n
+neqb→ne m n t e = T-not (eqb m n) t (subst (λ (k : ℕ). T (eqb m k)) e (eqb-refl m))
+
+pub ne→neqb : (m n : ℕ) → m ≢ n → T (not (eqb m n))
+ne→neqb m n h = not-T (eqb m n) (λ t. h (eqb→eq m n t))
+
+pub eq→eqb : (m n : ℕ) → m ≡ n → T (eqb m n)
+eq→eqb m n h = subst (λ (k : ℕ). T (eqb m k)) h (eqb-refl m)
+
+pub lt→nleb : (m n : ℕ) → n < m → T (not (leb m n))
+lt→nleb m n h = not-T (leb m n) (λ t. omega (arith, leb→le m n t))
+
+pub le→nltb : (m n : ℕ) → n ≤ m → T (not (ltb m n))
+le→nltb m n h = lt→nleb (suc m) n (omega arith)
+
+pub cond-same : {A : Type 0} (i : ℕ) (x y : A) → cond (eqb i i) x y ≡ x
+cond-same i x y = cond-yes (eqb i i) x y (eqb-refl i)
+
+pub cond-other : {A : Type 0} (k i : ℕ) (x y : A) → k ≢ i → cond (eqb k i) x y ≡ y
+cond-other k i x y h = cond-no (eqb k i) x y (ne→neqb k i h)
+
+pub and-T : (a b : Bool) → T (a && b) → T a × T b
+and-T true b t = (tt, t)
+and-T false b t = absurd t
+
+pub T-and : (a b : Bool) → T a → T b → T (a && b)
+T-and true b s t = t
+T-and false b s t = absurd s
+
+pub or-T : (a b : Bool) → T (a || b) → T a ⊎ T b
+or-T true b t = inl tt
+or-T false b t = inr t
+
+pub or-not : (a b : Bool) → T (not (a || b)) → T (not a) × T (not b)
+or-not true b t = absurd t
+or-not false b t = (tt, t)
+
+pub not-or : (a b : Bool) → T (not a) → T (not b) → T (not (a || b))
+not-or true b s t = absurd s
+not-or false b s t = t
+
+-- a test that a function made, its result r, is the test t, and a branch on `!r` was taken, or left
+pub denied : (r t : Bool) → r ≡ t → not r ≡ true → t ≡ false
+denied r t e h = sym e ∙ not-true r h
+
+pub passed : (r t : Bool) → r ≡ t → not r ≡ false → t ≡ true
+passed r t e h = sym e ∙ not-false r h
