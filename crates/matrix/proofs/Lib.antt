@@ -1,3 +1,5 @@
 -- Laws that the proofs of this crate and of the crates above cite.
 pub mod Sums
 pub mod Matrix
+pub mod Array
+pub mod Stores

@@ -1,15 +1,16 @@
 -- Laws of the matrix and of what the steps do to it, place by place. Assumes nothing.
 -- the largest: it is one of the numbers, and none has more
-use Prim.Native.Nat.{ℕ, zero, suc, _≤_, _<_, max}
+use Prim.Native.Nat.{ℕ, zero, suc, _+_, _≤_, _<_, max}
 use mathlib.Core.Bool.{cond}
-use mathlib.Core.Logic.{_≢_}
-use mathlib.Core.Path.{_≡_, _∙_}
+use mathlib.Core.Logic.{_⊎_, inl, inr, _≢_}
+use mathlib.Core.Path.{_≡_, refl, sym, ap, _∙_}
 use native.Mathlib.Decide.{ℕ-discrete}
 use native.Mathlib.Nat.{not-suc-le-zero}
+use native.Mathlib.Numerals.{add-one}
 use native.Mathlib.Omega.{arith}
-use lib.Dec.{nltb→le, eqb, ltb, ltb→lt}
-use Rattle.matrix.specs.Matrix.{largest, merge, Matrix, nonZero, only, clear}
-use Rattle.wire.proofs.Tests.{cond-same, cond-other, cond-elim}
+use lib.Dec.{eqb, lt→ltb, nltb→le, ltb, ltb→lt}
+use Rattle.matrix.specs.Matrix.{only, clear, Matrix, largest, merge, nonZero}
+use Rattle.wire.proofs.Tests.{le→nltb, cond-no, cond-other, cond-elim, cond-same, cond-yes}
 
 pub largest-lt : (k : ℕ) (g : ℕ → ℕ) → largest (suc k) g < suc k
 largest-lt zero g = cond-elim (λ (z : ℕ). z < 1) (ltb (g 0) (g 0)) 0 0 (λ t. omega arith) (λ t. omega arith)
@@ -60,3 +61,26 @@ merge-max j m e x y h = cond-other y j (m x y) (max (m x y) (e x y)) h
 pub nonZero-le : (v : ℕ) → nonZero v ≤ 1
 nonZero-le zero = omega arith
 nonZero-le (suc v) = omega arith
+
+pub nonZero-none : (v : ℕ) → v ≡ 0 → nonZero v ≡ 0
+nonZero-none v e = rw e
+
+pub nonZero-one : (v : ℕ) → (v ≡ 0 → ⊥) → nonZero v ≡ 1
+nonZero-one zero h = absurd (h refl)
+nonZero-one (suc v) h = refl
+
+-- one number more: a larger value is taken, and another is not
+pub largest-first : (f : ℕ → ℕ) → largest 1 f ≡ 0
+largest-first f = cond-elim (λ (z : ℕ). z ≡ 0) (ltb (f 0) (f 0)) 0 0 (λ _. refl) (λ _. refl)
+
+pub largest-taken : (k : ℕ) (f : ℕ → ℕ) → f (largest k f) < f k → largest (k + 1) f ≡ k
+largest-taken k f h = ap (λ (z : ℕ). largest z f) (add-one k) ∙ cond-yes (ltb (f (largest k f)) (f k)) k (largest k f) (lt→ltb (f (largest k f)) (f k) h)
+
+pub largest-left : (k : ℕ) (f : ℕ → ℕ) → f k ≤ f (largest k f) → largest (k + 1) f ≡ largest k f
+largest-left k f h = ap (λ (z : ℕ). largest z f) (add-one k) ∙ cond-no (ltb (f (largest k f)) (f k)) k (largest k f) (le→nltb (f (largest k f)) (f k) h)
+
+-- one turn of a loop that keeps the lowest number with the largest value, and that value
+pub largest-turn : (f : ℕ → ℕ) (y best best′ most : ℕ) → best ≡ largest y f → most ≡ f best
+    → ((f y ≤ most) × (best′ ≡ best)) ⊎ ((most < f y) × (best′ ≡ y)) → best′ ≡ largest (y + 1) f
+largest-turn f y best best′ most p q (inl h) = h .1 ∙ p ∙ sym (largest-left y f (rw (← p, ← q) (h .0)))
+largest-turn f y best best′ most p q (inr h) = h .1 ∙ sym (largest-taken y f (rw (← p, ← q) (h .0)))

@@ -4,8 +4,13 @@ use mathlib.Core.Logic.{_≢_}
 use mathlib.Core.Path.{_≡_, refl, sym, ap, _∙_}
 use native.Mathlib.Decide.{ℕ-discrete, decLe}
 use native.Mathlib.Nat.{add-zero, not-suc-le-zero}
+use native.Mathlib.Numerals.{add-one}
 use native.Mathlib.Omega.{arith}
 use Rattle.matrix.specs.Matrix.{sum}
+
+-- one term more, in the form `k + 1` of the code
+pub sum-more : (k : ℕ) (f : ℕ → ℕ) → sum (k + 1) f ≡ sum k f + f k
+sum-more k f = rw add-one
 
 pub sum-ext : (k : ℕ) (f g : ℕ → ℕ) → ((x : ℕ) → f x ≡ g x) → sum k f ≡ sum k g
 sum-ext zero f g h = refl
@@ -56,6 +61,11 @@ sum-single (suc k) l f e = go (sum-single k l f e) (ℕ-discrete k l)
     go ih (yes q) = rw (← q) (omega (arith, none-below k (omega arith)))
     go ih (no q) = omega (arith, e k q)
 
+-- two sums whose terms agree below k
+pub sum-upto : (k : ℕ) (f g : ℕ → ℕ) → ((x : ℕ) → x < k → f x ≡ g x) → sum k f ≡ sum k g
+sum-upto zero f g h = refl
+sum-upto (suc k) f g h = omega (arith, sum-upto k f g (λ x l. h x (omega arith)), h k (omega arith))
+
 -- a sum over places is a sum over rows of sums over columns
 pub sum-part : (f : ℕ → ℕ) (a j : ℕ) → sum (a + j) f ≡ sum a f + sum j (λ y. f (a + y))
 sum-part f a zero = omega (arith, ap (λ (z : ℕ). sum z f) (add-zero a))
@@ -72,10 +82,6 @@ sum-rows g (suc a) =
   where
     cell : (y : ℕ) → y < 12 → g ((12 * a + y) / 12) ((12 * a + y) % 12) ≡ g a y
     cell y h = let r : (12 * a + y) / 12 ≡ a = omega arith in let c : (12 * a + y) % 12 ≡ y = omega arith in rw (r, c)
-
-    sum-upto : (k : ℕ) (f h : ℕ → ℕ) → ((y : ℕ) → y < k → f y ≡ h y) → sum k f ≡ sum k h
-    sum-upto zero f h e = refl
-    sum-upto (suc k) f h e = omega (arith, sum-upto k f h (λ y l. e y (omega arith)), e k (omega arith))
 
 pub sum-add : (k : ℕ) (f g : ℕ → ℕ) → sum k (λ x. f x + g x) ≡ sum k f + sum k g
 sum-add zero f g = refl

@@ -1,6 +1,6 @@
 -- The matrix M as document 01 and the paper have it, a function of row and column, and what the steps do to it.
 use Prim.Native.Nat.{ℕ, zero, suc, _+_, max}
-use mathlib.Core.Bool.{Bool, true, false, cond}
+use mathlib.Core.Bool.{cond, _&&_}
 use lib.Dec.{ltb, eqb}
 
 -- m x y is the known count of frames issued by x to y
@@ -46,6 +46,6 @@ only l m x y = cond (eqb y l) (m x y) 0
 unfoldable pub merge : ℕ → Matrix → Matrix → Matrix
 merge j m e x y = cond (eqb y j) (m x y) (max (m x y) (e x y))
 
--- the same for one entry, of value v in row a and column b
-unfoldable pub mergeEntry : ℕ → ℕ → ℕ → ℕ → Matrix → Matrix
-mergeEntry j a b v m x y = cond (eqb y j) (m x y) (cond (eqb x a) (cond (eqb y b) (max (m x y) v) (m x y)) (m x y))
+-- the matrix with the one entry v, in row a and column b
+unfoldable pub single : ℕ → ℕ → ℕ → Matrix
+single a b v x y = cond (eqb x a && eqb y b) v 0
