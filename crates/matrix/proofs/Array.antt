@@ -7,13 +7,14 @@ use mathlib.Core.Path.{_≡_, refl, sym, ap, ap₂, _∙_, fun-ext}
 use native.Mathlib.Decide.{ℕ-discrete, decLt}
 use native.Mathlib.Nat.{add-zero, zero-add}
 use native.Mathlib.Omega.{arith}
-use lib.Dec.{ltb, lt→ltb, eqb, eqb-refl, eqb→eq, not-T, ltb→lt}
-use lib.ListN.{getD, length, set, length-set}
-use lib.Seq.{getD-set-other, getD-set-same, ext-getD}
-use Rattle.matrix.proofs.Sums.{sum-rows, sum-swap, sum-upto}
-use Rattle.matrix.specs.Array.{entry, flat, listFrom}
-use Rattle.matrix.specs.Matrix.{columnCount, sum, Matrix, count, nonZero}
-use Rattle.wire.proofs.Tests.{and-T, cond-no, T-and, cond-yes}
+use lib.Dec.{eqb-refl, eqb→eq, not-T, lt→ltb, ltb, ltb→lt, eqb}
+use lib.ListN.{length-set, getD, set, length}
+use lib.Seq.{getD-set-same, getD-set-other, ext-getD}
+use Rattle.matrix.proofs.Matrix.{nonZero-le}
+use Rattle.matrix.proofs.Sums.{sum-upto, sum-rows, sum-ones, sum-swap}
+use Rattle.matrix.specs.Array.{flat, listFrom, entry}
+use Rattle.matrix.specs.Matrix.{sum, Matrix, columnCount, count, nonZero}
+use Rattle.wire.proofs.Tests.{and-T, cond-no, cond-yes, T-and}
 
 pub length-list : (k r : ℕ) (f : ℕ → ℕ) → length (listFrom k r f) ≡ r
 length-list k zero f = refl
@@ -119,3 +120,16 @@ count-array l =
     sum-upto 144 (λ k. nonZero (getD l k 0)) (λ k. nonZero (entry l (k / 12) (k % 12))) (λ k h. ap nonZero (sym (entry-place l k h)))
     ∙ sum-rows (λ x y. nonZero (entry l x y)) 12
     ∙ sum-swap 12 12 (λ x y. nonZero (entry l x y))
+
+-- matrices that agree inside have as many entries
+pub count-ext : (f g : Matrix) → ((x y : ℕ) → x < 12 → y < 12 → f x y ≡ g x y) → count f ≡ count g
+unfolding count columnCount
+count-ext f g h =
+    sum-upto 12 (λ y. sum 12 (λ x. nonZero (f x y))) (λ y. sum 12 (λ x. nonZero (g x y))) (λ y l. sum-upto 12 (λ x. nonZero (f x y)) (λ x. nonZero (g x y)) (λ x k. ap nonZero (h x y k l)))
+
+pub count-flat : (m : Matrix) → sum 144 (λ k. nonZero (getD (flat m) k 0)) ≡ count m
+count-flat m = count-array (flat m) ∙ count-ext (entry (flat m)) m (λ x y h k. entry-flat m x y h k)
+
+-- at most 144
+pub count-le : (m : Matrix) → count m ≤ 144
+count-le m = rw (← count-flat m) (sum-ones 144 (λ k. nonZero (getD (flat m) k 0)) (λ k _. nonZero-le (getD (flat m) k 0)))

@@ -12,6 +12,11 @@ use Rattle.matrix.specs.Matrix.{sum}
 pub sum-more : (k : ℕ) (f : ℕ → ℕ) → sum (k + 1) f ≡ sum k f + f k
 sum-more k f = rw add-one
 
+-- the first term apart
+pub sum-first : (k : ℕ) (f : ℕ → ℕ) → sum (suc k) f ≡ f 0 + sum k (λ i. f (suc i))
+sum-first zero f = omega arith
+sum-first (suc k) f = omega (arith, sum-first k f)
+
 pub sum-ext : (k : ℕ) (f g : ℕ → ℕ) → ((x : ℕ) → f x ≡ g x) → sum k f ≡ sum k g
 sum-ext zero f g h = refl
 sum-ext (suc k) f g h = omega (arith, sum-ext k f g h, h k)

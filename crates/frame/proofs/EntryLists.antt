@@ -1,0 +1,71 @@
+-- Laws of the entries of an array, one place or one row after the other, and of their bytes. Assumes nothing.
+use Prim.Native.Nat.{ℕ, suc, _+_, _*_, _/_, _%_, _<_}
+use mathlib.Core.List.{List, [], _∷_, _++_, append-assoc}
+use mathlib.Core.Path.{_≡_, refl, sym, _∙_}
+use native.Mathlib.Decide.{ℕ-discrete}
+use native.Mathlib.Nat.{add-zero, add-assoc}
+use native.Mathlib.Omega.{arith}
+use borrow.Author.Tests.{ne-eqb, eq-eqb}
+use lib.ListN.{getD, length, length-append, drop}
+use Rattle.frame.specs.Entries.{entryBytes, listed, entriesOf, entriesBytes, placed}
+use Rattle.frame.specs.declared.entries.Entry.{Entry}
+use Rattle.matrix.proofs.Array.{count-flat, length-flat}
+use Rattle.matrix.proofs.Matrix.{nonZero-none, nonZero-one}
+use Rattle.matrix.proofs.Sums.{sum-first}
+use Rattle.matrix.specs.Array.{flat}
+use Rattle.matrix.specs.Matrix.{Matrix, nonZero, sum, count}
+use Rattle.wire.proofs.Bytes.{rest}
+use Rattle.wire.specs.Bytes.{le32}
+
+pub length-entry : (a : Entry) → length (entryBytes a) ≡ 6
+unfolding entryBytes le32
+length-entry a = refl
+
+pub length-entries : (l : List Entry) → length (entriesBytes l) ≡ 6 * length l
+unfolding entriesBytes
+length-entries [] = refl
+length-entries (a ∷ l) = rw (length-append, length-entry, length-entries l) (omega arith)
+
+pub entries-append : (l r : List Entry) → entriesBytes (l ++ r) ≡ entriesBytes l ++ entriesBytes r
+unfolding entriesBytes
+entries-append [] r = refl
+entries-append (a ∷ l) r = rw (entries-append l r, append-assoc)
+
+-- a place that is zero has no entry, and another has one
+pub placed-none : (k v : ℕ) → v ≡ 0 → placed k v ≡ []
+unfolding placed
+placed-none k v e = simp (eq-eqb v 0 e)
+
+pub placed-one : (k v : ℕ) → (v ≡ 0 → ⊥) → placed k v ≡ record { row = k / 12; column = k % 12; value = v } ∷ []
+unfolding placed
+placed-one k v h = simp (ne-eqb v 0 h)
+
+pub length-placed : (k v : ℕ) → length (placed k v) ≡ nonZero v
+length-placed k v = go (ℕ-discrete v 0)
+  where
+    go : Dec (v ≡ 0) → length (placed k v) ≡ nonZero v
+    go (yes e) = rw (placed-none k v e) (sym (nonZero-none v e))
+    go (no h) = rw (placed-one k v h) (sym (nonZero-one v h))
+
+pub length-listed : (k : ℕ) (l : List ℕ) → length (listed k l) ≡ sum (length l) (λ i. nonZero (getD l i 0))
+unfolding listed
+length-listed k [] = refl
+length-listed k (v ∷ l) =
+    length-append (placed k v) (listed (k + 1) l) ∙ omega (arith, length-placed k v, length-listed (k + 1) l, sum-first (length l) (λ i. nonZero (getD (v ∷ l) i 0)))
+
+-- there are as many entries as the matrix has
+pub length-entriesOf : (m : Matrix) → length (entriesOf m) ≡ count m
+unfolding entriesOf
+length-entriesOf m = length-listed 0 (flat m) ∙ rw length-flat (count-flat m)
+
+-- an array in two parts, and one place after the other
+pub listed-append : (k : ℕ) (a b : List ℕ) → listed k (a ++ b) ≡ listed k a ++ listed (k + length a) b
+unfolding listed
+listed-append k [] b = rw add-zero
+listed-append k (v ∷ a) b =
+    let e : k + 1 + length a ≡ k + suc (length a) = omega arith in
+    rw (listed-append (k + 1) a b, e, append-assoc)
+
+pub listed-rest : (k y : ℕ) (r : List ℕ) → y < length r → listed (k + y) (drop y r) ≡ placed (k + y) (getD r y 0) ++ listed (k + (y + 1)) (drop (y + 1) r)
+unfolding listed
+listed-rest k y r h = rw (rest r y h, add-assoc)
