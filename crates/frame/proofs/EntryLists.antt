@@ -1,21 +1,21 @@
 -- Laws of the entries of an array, one place or one row after the other, and of their bytes. Assumes nothing.
 use Prim.Native.Nat.{ℕ, suc, _+_, _*_, _/_, _%_, _<_}
-use mathlib.Core.List.{List, [], _∷_, _++_, append-assoc}
-use mathlib.Core.Path.{_≡_, refl, sym, _∙_}
+use mathlib.Core.List.{List, [], _∷_, _++_, append-assoc, append-nil}
+use mathlib.Core.Path.{_≡_, refl, sym, ap, _∙_}
 use native.Mathlib.Decide.{ℕ-discrete}
 use native.Mathlib.Nat.{add-zero, add-assoc}
 use native.Mathlib.Omega.{arith}
-use borrow.Author.Tests.{ne-eqb, eq-eqb}
-use lib.ListN.{getD, length, length-append, drop}
-use Rattle.frame.specs.Entries.{entryBytes, listed, entriesOf, entriesBytes, placed}
+use borrow.Author.Tests.{eq-eqb, ne-eqb}
+use lib.ListN.{getD, length-append, set, length, drop}
+use Rattle.frame.specs.Entries.{placed, entriesBytes, entryBytes, listed, entriesOf}
 use Rattle.frame.specs.declared.entries.Entry.{Entry}
-use Rattle.matrix.proofs.Array.{count-flat, length-flat}
+use Rattle.matrix.proofs.Array.{length-flat, place-row, count-flat, place-column}
 use Rattle.matrix.proofs.Matrix.{nonZero-none, nonZero-one}
 use Rattle.matrix.proofs.Sums.{sum-first}
 use Rattle.matrix.specs.Array.{flat}
 use Rattle.matrix.specs.Matrix.{Matrix, nonZero, sum, count}
-use Rattle.wire.proofs.Bytes.{rest}
-use Rattle.wire.specs.Bytes.{le32}
+use Rattle.wire.proofs.Bytes.{put-nil, rest}
+use Rattle.wire.specs.Bytes.{put, le32}
 
 pub length-entry : (a : Entry) → length (entryBytes a) ≡ 6
 unfolding entryBytes le32
@@ -69,3 +69,23 @@ listed-append k (v ∷ a) b =
 pub listed-rest : (k y : ℕ) (r : List ℕ) → y < length r → listed (k + y) (drop y r) ≡ placed (k + y) (getD r y 0) ++ listed (k + (y + 1)) (drop (y + 1) r)
 unfolding listed
 listed-rest k y r h = rw (rest r y h, add-assoc)
+
+-- the entry of a place by its row and column
+pub placed-at : (x y v : ℕ) → y < 12 → (v ≡ 0 → ⊥) → placed (12 * x + y) v ≡ record { row = x; column = y; value = v } ∷ []
+placed-at x y v h z = placed-one (12 * x + y) v z ∙ rw (place-row x y h, place-column x y h)
+
+-- no entry written, and one
+pub put-none : (o : List ℕ) (at : ℕ) → put o at (entriesBytes []) ≡ o
+unfolding entriesBytes
+put-none o at = put-nil o at
+
+pub put-single : (o : List ℕ) (at : ℕ) (a : Entry) → put o at (entriesBytes (a ∷ [])) ≡ put o at (entryBytes a)
+unfolding entriesBytes
+put-single o at a = rw append-nil
+
+-- an entry written field by field
+pub put-entry : (o : List ℕ) (at : ℕ) (a : Entry) → put (set (set o at (a .row)) (at + 1) (a .column)) (at + 2) (le32 (a .value)) ≡ put o at (entryBytes a)
+unfolding put entryBytes
+put-entry o at a =
+    let e : at + 2 ≡ at + 1 + 1 = omega arith in
+    ap (λ (k : ℕ). put (set (set o at (a .row)) (at + 1) (a .column)) k (le32 (a .value))) e

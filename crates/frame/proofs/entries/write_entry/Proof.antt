@@ -1,37 +1,36 @@
+-- Two bytes and a field of four are written. Assumes nothing.
+use mathlib.Core.Path.{_∙_}
+use native.Mathlib.Omega.{arith}
 use borrow.Author.Needs.{needs}
+use lib.ListN.{length-set}
+use Rattle.frame.proofs.EntryLists.{put-entry}
+use Rattle.frame.specs.Refusals.{before}
 use Rattle.frame.proofs.entries.write_entry.Statement.{statement}
 use Rattle.frame.proofs.entries.write_entry.Tie as tie
-use Rattle.frame.proofs.entries.write_entry.Reads as reads
-use Rattle.frame.proofs.entries.write_entry.Lts as lts
-use Rattle.wire.proofs.put_u32.Reads as put-u32-reads
 
--- src/entries.rt:35:5
 slice-write-out : tie.Need-slice-write-out
 slice-write-out c = search needs
 
--- src/entries.rt:36:9
 add-out : tie.Need-add-out
 add-out c = search needs
 
--- src/entries.rt:36:5
 slice-write-out-2 : tie.Need-slice-write-out-2
-slice-write-out-2 c = ?
+slice-write-out-2 c = simp length-set (omega arith)
 
--- src/entries.rt:37:24
 add-put-u32 : tie.Need-add-put-u32
 add-put-u32 c = search needs
 
--- src/entries.rt:37:5
 put-u32-requires : tie.Need-put-u32-requires
-put-u32-requires c κs = ?
+put-u32-requires c κs = simp length-set (omega arith)
 
--- src/entries.rt:31:1
 same-length : tie.Need-same-length
-same-length c = ?
+same-length c = c .before .before .put-u32 .kept .0 ∙ simp length-set
 
--- src/entries.rt:31:1
 returns : tie.Need-returns
-returns c = ?
+returns c =
+    let b = c .before .before in
+    let a = b .before .before .before .args in
+    b .put-u32 .ensures ∙ put-entry (a .out .now) (a .at) (a .a)
 
 pub write-entry-spec : {M : Type 1} → statement M
 write-entry-spec =

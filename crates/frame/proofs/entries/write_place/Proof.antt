@@ -1,37 +1,45 @@
+-- A zero is not written, and another entry is. Assumes nothing.
+use Prim.Native.Nat.{_+_, _*_}
+use mathlib.Core.Option.{none}
+use mathlib.Core.Path.{sym, _∙_}
+use native.Mathlib.Omega.{arith}
 use borrow.Author.Needs.{needs}
+use Rattle.frame.proofs.EntryLists.{placed-at, length-placed, placed-none, put-single, put-none}
+use Rattle.frame.specs.Refusals.{before}
+use Rattle.matrix.proofs.Matrix.{nonZero-one}
 use Rattle.frame.proofs.entries.write_place.Statement.{statement}
 use Rattle.frame.proofs.entries.write_place.Tie as tie
-use Rattle.frame.proofs.entries.write_place.Reads as reads
-use Rattle.frame.proofs.entries.write_place.Lts as lts
-use Rattle.frame.proofs.entries.write_entry.Reads as write-entry-reads
 
--- src/entries.rt:46:9
 returns : tie.Need-returns
-returns c = ?
+returns c =
+    let a = c .before .before .args in
+    let none = placed-none (12 * a .x + a .y) (a .v) (c .if1 .taken) in
+    rw none (omega arith, sym (put-none (a .out .now) (a .at)))
 
--- src/entries.rt:52:18
 cast-t10 : tie.Need-cast-t10
 cast-t10 c = search needs
 
--- src/entries.rt:53:21
 cast-t11 : tie.Need-cast-t11
 cast-t11 c = search needs
 
--- src/entries.rt:48:5
 write-entry-requires : tie.Need-write-entry-requires
-write-entry-requires c κs = ?
+write-entry-requires c κs =
+    let s = c .before .before .before in
+    omega (arith, length-placed (12 * s .args .x + s .args .y) (s .args .v), nonZero-one (s .args .v) (c .before .if1 .left), s .pre .0)
 
--- src/entries.rt:57:5
 add-result : tie.Need-add-result
 add-result c = search needs
 
--- src/entries.rt:41:1
 same-length : tie.Need-same-length
 same-length c = search needs
 
--- src/entries.rt:41:1
 returns-2 : tie.Need-returns-2
-returns-2 c = ?
+returns-2 c =
+    let b = c .before .before in
+    let s = b .before .before .before .before in
+    let a = s .args in
+    let one = placed-at (a .x) (a .y) (a .v) (s .pre .2) (b .before .before .if1 .left) in
+    rw one (omega arith, b .write-entry .ensures ∙ sym (put-single (a .out .now) (a .at) (record { row = a .x; column = a .y; value = a .v })))
 
 pub write-place-spec : {M : Type 1} → statement M
 write-place-spec =
