@@ -26,12 +26,13 @@ fn wrong_trailer(s: &[u8]) -> bool
 fn wrong_kind(h: Header) -> bool
     ensures { λ r. ⌜ r ≡ wrongKind h ⌝ }
 {
-    if h.kind != 1 {
-        if h.kind != 2 {
-            return true;
-        }
+    if h.reserved != 0 {
+        return true;
     }
-    h.reserved != 0
+    if h.kind == 1 {
+        return false;
+    }
+    h.kind != 2
 }
 
 // 10: n or cap is another, from or to is not below n, or they are equal.

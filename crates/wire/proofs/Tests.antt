@@ -5,7 +5,7 @@ use mathlib.Core.Logic.{_⊎_, inl, inr, _≢_}
 use mathlib.Core.Path.{_≡_, refl, sym, subst, _∙_}
 use native.Mathlib.Omega.{arith}
 use borrow.Author.Tests.{not-true, not-false}
-use lib.Dec.{T, eqb, ltb, eqb→eq, eqb-refl, T-not, leb→le, leb, not-T}
+use lib.Dec.{T-not, eqb→eq, leb→le, not-T, eqb-refl, eqb, ltb, leb, T}
 
 pub is-true : (b : Bool) → T b → b ≡ true
 is-true true t = refl
@@ -81,6 +81,45 @@ or-not false b t = (tt, t)
 pub not-or : (a b : Bool) → T (not a) → T (not b) → T (not (a || b))
 not-or true b s t = absurd s
 not-or false b s t = t
+
+-- several tests at once
+pub all-seven : (a b c d e f g : Bool) → T (a && b && c && d && e && f && g) → T a × T b × T c × T d × T e × T f × T g
+all-seven true true true true true true g t = (tt, tt, tt, tt, tt, tt, t)
+all-seven true true true true true false g t = absurd t
+all-seven true true true true false f g t = absurd t
+all-seven true true true false e f g t = absurd t
+all-seven true true false d e f g t = absurd t
+all-seven true false c d e f g t = absurd t
+all-seven false b c d e f g t = absurd t
+
+pub no-three : (a b c : Bool) → T (not (a || b || c)) → T (not a) × T (not b) × T (not c)
+no-three a b c t = let p = or-not (a || b) c t in let q = or-not a b (p .0) in (q .0, q .1, p .1)
+
+pub no-four : (a b c d : Bool) → T (not (a || b || c || d)) → T (not a) × T (not b) × T (not c) × T (not d)
+no-four a b c d t = let p = or-not (a || b || c) d t in let q = no-three a b c (p .0) in (q .0, q .1, q .2, p .1)
+
+-- a test under a condition
+pub if-then : (a b : Bool) → T (not a || b) → T a → T b
+if-then true b t s = t
+if-then false b t s = absurd s
+
+pub then-if : (a b : Bool) → (T a → T b) → T (not a || b)
+then-if true b f = f tt
+then-if false b f = tt
+
+pub if-not : (a b : Bool) → T (not (a && not b)) → T a → T b
+if-not true b t s = not-not b t
+if-not false b t s = absurd s
+
+pub not-if : (a b : Bool) → (T a → T b) → T (not (a && not b))
+not-if true true f = tt
+not-if true false f = absurd (f tt)
+not-if false b f = tt
+
+-- a choice that is not the number v was not made
+pub skipped : (b : Bool) (v x : ℕ) → (v ≡ 0 → ⊥) → cond b v x ≡ 0 → T (not b) × (x ≡ 0)
+skipped true v x h e = absurd (h e)
+skipped false v x h e = (tt, e)
 
 -- a test that a function made, its result r, is the test t, and a branch on `!r` was taken, or left
 pub denied : (r t : Bool) → r ≡ t → not r ≡ true → t ≡ false

@@ -1,39 +1,44 @@
+-- The tests in the order of the definition. Assumes nothing.
+use mathlib.Core.Path.{sym}
+use borrow.Author.Tests.{ne-eqb, le-ltb, lt-leb, eq-eqb, lt-ltb, le-leb}
+use Rattle.frame.proofs.Checks.{entry-left}
+use Rattle.frame.specs.Refusals.{entryOk, before}
 use Rattle.frame.proofs.check.entry_ok.Statement.{statement}
 use Rattle.frame.proofs.check.entry_ok.Tie as tie
-use Rattle.frame.proofs.check.entry_ok.Reads as reads
-use Rattle.frame.proofs.check.entry_ok.Lts as lts
 
--- src/check.rt:74:9
 returns : tie.Need-returns
-returns c = ?
+unfolding entryOk
+returns c = simp (le-ltb _ _ (c .if1 .taken))
 
--- src/check.rt:77:9
 returns-2 : tie.Need-returns-2
-returns-2 c = ?
+unfolding entryOk
+returns-2 c = simp (lt-ltb _ _ (c .before .before .if1 .left), le-ltb _ _ (c .if2 .taken))
 
--- src/check.rt:80:9
 returns-3 : tie.Need-returns-3
-returns-3 c = ?
+unfolding entryOk
+returns-3 c = simp (lt-ltb _ _ (c .before .before .before .before .if1 .left), lt-ltb _ _ (c .before .before .if2 .left), eq-eqb _ _ (c .if3 .taken))
 
--- src/check.rt:83:9
 returns-4 : tie.Need-returns-4
-returns-4 c = ?
+unfolding entryOk
+returns-4 c = simp (lt-ltb _ _ (c .before .before .before .before .before .before .before .if1 .left), lt-ltb _ _ (c .before .before .before .before .before .if2 .left), ne-eqb _ _ (c .before .before .before .if3 .left), eq-eqb _ _ (c .if4 .taken))
 
--- src/check.rt:86:9
 returns-5 : tie.Need-returns-5
-returns-5 c = ?
+unfolding entryOk
+returns-5 c = simp (lt-ltb _ _ (c .before .before .before .before .before .before .before .before .before .if1 .left), lt-ltb _ _ (c .before .before .before .before .before .before .before .if2 .left), ne-eqb _ _ (c .before .before .before .before .before .if3 .left), ne-eqb _ _ (c .before .before .if4 .left), lt-leb _ _ (c .if5 .taken))
 
--- src/check.rt:89:9
 returns-6 : tie.Need-returns-6
-returns-6 c = ?
+unfolding entryOk
+returns-6 c = simp (lt-ltb _ _ (c .before .before .before .before .before .before .before .before .before .before .before .if1 .left), lt-ltb _ _ (c .before .before .before .before .before .before .before .before .before .if2 .left), ne-eqb _ _ (c .before .before .before .before .before .before .before .if3 .left), ne-eqb _ _ (c .before .before .before .before .if4 .left), le-leb _ _ (c .before .before .if5 .left), lt-leb _ _ (c .if6 .taken))
 
--- src/check.rt:92:9
 returns-7 : tie.Need-returns-7
-returns-7 c = ?
+unfolding entryOk
+returns-7 c = simp (lt-ltb _ _ (c .before .before .before .before .before .before .before .before .before .before .before .before .before .if1 .left), lt-ltb _ _ (c .before .before .before .before .before .before .before .before .before .before .before .if2 .left), ne-eqb _ _ (c .before .before .before .before .before .before .before .before .before .if3 .left), ne-eqb _ _ (c .before .before .before .before .before .before .if4 .left), le-leb _ _ (c .before .before .before .before .if5 .left), le-leb _ _ (c .before .before .if6 .left), ne-eqb _ _ (c .if7 .taken))
 
--- src/check.rt:70:1
 returns-8 : tie.Need-returns-8
-returns-8 c = ?
+returns-8 c =
+    let f = c .before .before in
+    let d = f .before .before .before .before .before .before .before in
+    sym (entry-left _ (d .before .before .before .before .before .before .before .before .args .h) (d .before .before .before .before .before .before .before .before .args .a) (d .before .before .before .before .before .before .if1 .left) (d .before .before .before .before .if2 .left) (d .before .before .if3 .left) (f .before .before .before .before .before .before .if4 .left) (f .before .before .before .before .if5 .left) (f .before .before .if6 .left) (f .if7 .left))
 
 pub entry-ok-spec : {M : Type 1} → statement M
 entry-ok-spec =

@@ -1,53 +1,64 @@
+-- The four checks in rising order, the first that is met. Assumes nothing.
+use mathlib.Core.Path.{sym, _∙_}
+use native.Mathlib.Omega.{arith}
 use borrow.Author.Needs.{needs}
+use Rattle.frame.proofs.Checks.{trailer-passed, refusal-none, refusal-10, refusal-11, refusal-9}
+use Rattle.frame.specs.Refusals.{frameRefusal, before}
 use Rattle.frame.proofs.check.refusal.Statement.{statement}
 use Rattle.frame.proofs.check.refusal.Tie as tie
-use Rattle.frame.proofs.check.refusal.Reads as reads
-use Rattle.frame.proofs.check.refusal.Lts as lts
-use Rattle.frame.proofs.check.wrong_address.Reads as wrong-address-reads
-use Rattle.frame.proofs.check.wrong_content.Reads as wrong-content-reads
-use Rattle.frame.proofs.check.wrong_kind.Reads as wrong-kind-reads
-use Rattle.frame.proofs.check.wrong_trailer.Reads as wrong-trailer-reads
-use Rattle.frame.proofs.header.read.Reads as read-reads
 
--- src/check.rt:141:8
 wrong-trailer-requires : tie.Need-wrong-trailer-requires
 wrong-trailer-requires c κs = search needs
 
--- src/check.rt:142:9
 returns : tie.Need-returns
-returns c = ?
+unfolding frameRefusal
+returns c = simp (sym (c .before .wrong-trailer .ensures) ∙ c .if1 .taken)
 
--- src/check.rt:144:9
 read-requires : tie.Need-read-requires
-read-requires c κs = ?
+read-requires c κs =
+    let p = trailer-passed _ (sym (c .before .wrong-trailer .ensures) ∙ c .if1 .left) in
+    omega (arith, p .0)
 
--- src/check.rt:145:8
 wrong-kind-requires : tie.Need-wrong-kind-requires
 wrong-kind-requires c κs = search needs
 
--- src/check.rt:146:9
 returns-2 : tie.Need-returns-2
-returns-2 c = ?
+returns-2 c =
+    let r = c .before .before in
+    let t = sym (r .before .before .wrong-trailer .ensures) ∙ r .before .if1 .left in
+    sym (refusal-9 _ _ _ _ (r .read .ensures) t (sym (c .before .wrong-kind .ensures) ∙ c .if2 .taken))
 
--- src/check.rt:148:8
 wrong-address-requires : tie.Need-wrong-address-requires
 wrong-address-requires c κs = search needs
 
--- src/check.rt:149:9
 returns-3 : tie.Need-returns-3
-returns-3 c = ?
+returns-3 c =
+    let k = c .before .before in
+    let r = k .before .before in
+    let t = sym (r .before .before .wrong-trailer .ensures) ∙ r .before .if1 .left in
+    sym (refusal-10 _ _ _ _ (r .read .ensures) t (sym (k .before .wrong-kind .ensures) ∙ k .if2 .left) (sym (c .before .wrong-address .ensures) ∙ c .if3 .taken))
 
--- src/check.rt:151:8
 wrong-content-requires : tie.Need-wrong-content-requires
-wrong-content-requires c κs = ?
+wrong-content-requires c κs =
+    let r = c .before .before .before .before in
+    let p = trailer-passed _ (sym (r .before .before .wrong-trailer .ensures) ∙ r .before .if1 .left) in
+    (r .read .ensures, omega (arith, p .0), p .1)
 
--- src/check.rt:152:9
 returns-4 : tie.Need-returns-4
-returns-4 c = ?
+returns-4 c =
+    let a = c .before .before in
+    let k = a .before .before in
+    let r = k .before .before in
+    let t = sym (r .before .before .wrong-trailer .ensures) ∙ r .before .if1 .left in
+    sym (refusal-11 _ _ _ _ (r .read .ensures) t (sym (k .before .wrong-kind .ensures) ∙ k .if2 .left) (sym (a .before .wrong-address .ensures) ∙ a .if3 .left) (sym (c .before .wrong-content .ensures) ∙ c .if4 .taken))
 
--- src/check.rt:138:1
 returns-5 : tie.Need-returns-5
-returns-5 c = ?
+returns-5 c =
+    let a = c .before .before in
+    let k = a .before .before in
+    let r = k .before .before in
+    let t = sym (r .before .before .wrong-trailer .ensures) ∙ r .before .if1 .left in
+    sym (refusal-none _ _ _ _ (r .read .ensures) t (sym (k .before .wrong-kind .ensures) ∙ k .if2 .left) (sym (a .before .wrong-address .ensures) ∙ a .if3 .left) (sym (c .before .wrong-content .ensures) ∙ c .if4 .left))
 
 pub refusal-spec : {M : Type 1} → statement M
 refusal-spec =

@@ -1,27 +1,31 @@
+-- The tests in the order of the definition. Assumes nothing.
+use mathlib.Core.Path.{sym}
+use borrow.Author.Tests.{lt-ltb, le-ltb, ne-eqb, eq-eqb}
+use Rattle.frame.proofs.Checks.{address-left}
+use Rattle.frame.specs.Refusals.{wrongAddress, before}
 use Rattle.frame.proofs.check.wrong_address.Statement.{statement}
 use Rattle.frame.proofs.check.wrong_address.Tie as tie
-use Rattle.frame.proofs.check.wrong_address.Reads as reads
-use Rattle.frame.proofs.check.wrong_address.Lts as lts
 
--- src/check.rt:42:9
 returns : tie.Need-returns
-returns c = ?
+unfolding wrongAddress
+returns c = simp (ne-eqb _ _ (c .if1 .taken))
 
--- src/check.rt:45:9
 returns-2 : tie.Need-returns-2
-returns-2 c = ?
+unfolding wrongAddress
+returns-2 c = simp (eq-eqb _ _ (c .before .before .if1 .left), ne-eqb _ _ (c .if2 .taken))
 
--- src/check.rt:48:9
 returns-3 : tie.Need-returns-3
-returns-3 c = ?
+unfolding wrongAddress
+returns-3 c = simp (eq-eqb _ _ (c .before .before .before .before .if1 .left), eq-eqb _ _ (c .before .before .if2 .left), le-ltb _ _ (c .if3 .taken))
 
--- src/check.rt:51:9
 returns-4 : tie.Need-returns-4
-returns-4 c = ?
+unfolding wrongAddress
+returns-4 c = simp (eq-eqb _ _ (c .before .before .before .before .before .before .if1 .left), eq-eqb _ _ (c .before .before .before .before .if2 .left), lt-ltb _ _ (c .before .before .if3 .left), le-ltb _ _ (c .if4 .taken))
 
--- src/check.rt:38:1
 returns-5 : tie.Need-returns-5
-returns-5 c = ?
+returns-5 c =
+    let b = c .before in
+    sym (address-left _ _ (b .before .before .before .before .before .before .before .before .args .h) (b .before .before .before .before .before .before .if1 .left) (b .before .before .before .before .if2 .left) (b .before .before .if3 .left) (b .if4 .left))
 
 pub wrong-address-spec : {M : Type 1} → statement M
 wrong-address-spec = tie.close (tie.spec returns returns-2 returns-3 returns-4 returns-5)

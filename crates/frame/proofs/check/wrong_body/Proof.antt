@@ -1,24 +1,24 @@
+-- The tests in the order of the definition. Assumes nothing.
 use borrow.Author.Needs.{needs}
+use borrow.Author.Tests.{le-ltb, eq-eqb, lt-ltb, ne-eqb}
+use Rattle.frame.specs.Refusals.{wrongBody, before}
 use Rattle.frame.proofs.check.wrong_body.Statement.{statement}
 use Rattle.frame.proofs.check.wrong_body.Tie as tie
-use Rattle.frame.proofs.check.wrong_body.Reads as reads
-use Rattle.frame.proofs.check.wrong_body.Lts as lts
 
--- src/check.rt:60:25
 cast-if1 : tie.Need-cast-if1
 cast-if1 c = search needs
 
--- src/check.rt:61:9
 returns : tie.Need-returns
-returns c = ?
+unfolding wrongBody
+returns c = simp (lt-ltb _ _ (c .if1 .taken))
 
--- src/check.rt:64:9
 returns-2 : tie.Need-returns-2
-returns-2 c = ?
+unfolding wrongBody
+returns-2 c = simp (le-ltb _ _ (c .before .before .if1 .left), ne-eqb _ _ (c .if2 .taken))
 
--- src/check.rt:57:1
 returns-3 : tie.Need-returns-3
-returns-3 c = ?
+unfolding wrongBody
+returns-3 c = simp (le-ltb _ _ (c .before .before .before .if1 .left), eq-eqb _ _ (c .before .if2 .left))
 
 pub wrong-body-spec : {M : Type 1} → statement M
 wrong-body-spec = tie.close (tie.spec cast-if1 returns returns-2 returns-3)

@@ -1,58 +1,60 @@
+-- The tests in the order of the definition, with the count that the trailer gives. Assumes nothing.
+use mathlib.Core.Path.{sym, _∙_}
 use borrow.Author.Needs.{needs}
+use Rattle.frame.proofs.Checks.{content-count, content-cap, content-left, content-body}
+use Rattle.frame.specs.Refusals.{before}
 use Rattle.frame.proofs.check.wrong_content.Statement.{statement}
 use Rattle.frame.proofs.check.wrong_content.Tie as tie
-use Rattle.frame.proofs.check.wrong_content.Reads as reads
-use Rattle.frame.proofs.check.wrong_content.Lts as lts
-use Rattle.frame.proofs.check.wrong_body.Reads as wrong-body-reads
-use Rattle.frame.proofs.check.wrong_entries.Reads as wrong-entries-reads
 
--- src/check.rt:125:17
 cast-if1 : tie.Need-cast-if1
 cast-if1 c = search needs
 
--- src/check.rt:125:12
 mul-if1 : tie.Need-mul-if1
 mul-if1 c = search needs
 
--- src/check.rt:125:8
 add-if1 : tie.Need-add-if1
 add-if1 c = search needs
 
--- src/check.rt:125:33
 cast-if1-2 : tie.Need-cast-if1-2
 cast-if1-2 c = search needs
 
--- src/check.rt:125:8
 add-if1-2 : tie.Need-add-if1-2
 add-if1-2 c = search needs
 
--- src/check.rt:125:49
 sub-if1 : tie.Need-sub-if1
 sub-if1 c = search needs
 
--- src/check.rt:126:9
 returns : tie.Need-returns
-returns c = ?
+returns c =
+    let s = c .before .before .before .before in
+    sym (content-count _ _ _ _ (s .pre .0) (s .pre .2) (c .if1 .taken))
 
--- src/check.rt:128:8
 wrong-body-requires : tie.Need-wrong-body-requires
 wrong-body-requires c κs = search needs
 
--- src/check.rt:129:9
 returns-2 : tie.Need-returns-2
-returns-2 c = ?
+returns-2 c =
+    let b = c .before .before in
+    let s = b .before .before .before .before in
+    sym (content-body _ _ _ _ (s .pre .0) (s .pre .2) (b .if1 .left) (sym (c .before .wrong-body .ensures) ∙ c .if2 .taken))
 
--- src/check.rt:132:9
 returns-3 : tie.Need-returns-3
-returns-3 c = ?
+returns-3 c =
+    let d = c .before .before in
+    let b = d .before .before in
+    let s = b .before .before .before .before in
+    sym (content-cap _ _ _ _ (s .pre .0) (s .pre .2) (b .if1 .left) (sym (d .before .wrong-body .ensures) ∙ d .if2 .left) (c .if3 .taken))
 
--- src/check.rt:134:5
 wrong-entries-requires : tie.Need-wrong-entries-requires
 wrong-entries-requires c κs = search needs
 
--- src/check.rt:121:1
 returns-4 : tie.Need-returns-4
-returns-4 c = ?
+returns-4 c =
+    let f = c .before in
+    let d = f .before .before in
+    let b = d .before .before in
+    let s = b .before .before .before .before in
+    c .wrong-entries .ensures ∙ sym (content-left _ _ _ _ (s .pre .0) (s .pre .2) (b .if1 .left) (sym (d .before .wrong-body .ensures) ∙ d .if2 .left) (f .if3 .left))
 
 pub wrong-content-spec : {M : Type 1} → statement M
 wrong-content-spec =

@@ -1,0 +1,21 @@
+-- The round trip: each sound message has one sound frame, each sound frame one sound message, and each is read back from the other. Assumes nothing.
+use mathlib.Core.Path.{sym, ap, _∙_}
+use Rattle.frame.proofs.Reading.{decode-sound, decode-same, encode-decode}
+use Rattle.frame.proofs.Written.{encode-sound, encode-most, few-121, length-encode, decode-encode}
+use Rattle.frame.specs.Frame.{encode, decode}
+use Rattle.frame.specs.RoundTrip.{RoundTrip}
+
+pub roundTrip : RoundTrip
+roundTrip =
+    record {
+      sound = encode-sound;
+      entries = few-121;
+      size = λ m _. length-encode m;
+      most = encode-most;
+      readBack = decode-encode;
+      reads = decode-sound;
+      same = decode-same;
+      writtenAgain = encode-decode;
+      oneFrame = λ n cap s t f g e. sym (encode-decode n cap s f) ∙ ap encode e ∙ encode-decode n cap t g;
+      oneMessage = λ m k f g e. sym (decode-encode m f) ∙ ap decode e ∙ decode-encode k g;
+    }
