@@ -1,24 +1,24 @@
 -- What is left of the checks 9 to 11 once their first tests are passed. Assumes nothing.
 -- 9
-use Prim.Native.Nat.{ℕ, zero, suc, _+_, _-_, _*_, _≤_, _<_}
-use mathlib.Core.Bool.{or-true, or-false, and-assoc, and-true, Bool, true, false, not, _&&_, _||_}
+use Prim.Native.Nat.{_*_, _+_, _-_, _<_, _≤_, suc, zero, ℕ}
+use mathlib.Core.Bool.{Bool, _&&_, _||_, and-assoc, and-true, false, not, or-false, or-true, true}
 use mathlib.Core.List.{List, [], _∷_}
-use mathlib.Core.Path.{_≡_, refl, sym, ap, _∙_}
-use native.Mathlib.Decide.{ℕ-discrete, decLt}
+use mathlib.Core.Path.{_∙_, _≡_, ap, refl, sym}
+use native.Mathlib.Decide.{decLt, ℕ-discrete}
 use native.Mathlib.Omega.{arith}
-use borrow.Author.Tests.{lt-ltb, ne-eqb, le-ltb, eq-eqb, le-leb, lt-leb}
-use lib.Dec.{leb·zero, eqb, ltb, leb, nltb→le}
+use borrow.Author.Tests.{eq-eqb, le-leb, le-ltb, lt-leb, lt-ltb, ne-eqb}
+use lib.Dec.{eqb, leb, leb·zero, ltb, nltb→le}
 use lib.ListN.{length}
-use Rattle.frame.specs.Entries.{entryAt, entriesFrom}
+use Rattle.frame.specs.Entries.{entriesFrom, entryAt}
 use Rattle.frame.specs.Header.{header}
-use Rattle.frame.specs.Refusals.{wrongTrailer, eachOk, wrongKind, frameRefusal, wrongAddress, wrongBody, rising, wrongContent, wrongEntries, before, entryOk, risingAfter}
+use Rattle.frame.specs.Refusals.{before, eachOk, entryOk, frameRefusal, rising, risingAfter, wrongAddress, wrongBody, wrongContent, wrongEntries, wrongKind, wrongTrailer}
 use Rattle.frame.specs.declared.entries.Entry.{Entry}
 use Rattle.frame.specs.declared.header.Header.{Header}
 use Rattle.matrix.specs.Matrix.{count}
-use Rattle.wire.proofs.Tests.{of-false, not-not, no-three}
+use Rattle.wire.proofs.Tests.{no-three, not-not, of-false}
 use Rattle.wire.proofs.Trailer.{trailed}
 use Rattle.wire.specs.Bytes.{AllBytes}
-use Rattle.wire.specs.Limits.{maxFrame, maxCount}
+use Rattle.wire.specs.Limits.{maxCount, maxFrame}
 use Rattle.wire.specs.Trailer.{countBack, hasTrailer}
 
 pub kind-reserved : (h : Header) → (h .reserved ≡ 0 → ⊥) → wrongKind h ≡ true

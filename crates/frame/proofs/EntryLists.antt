@@ -1,21 +1,21 @@
 -- Laws of the entries of an array, one place or one row after the other, and of their bytes. Assumes nothing.
-use Prim.Native.Nat.{ℕ, suc, _+_, _*_, _/_, _%_, _<_}
-use mathlib.Core.List.{List, [], _∷_, _++_, append-assoc, append-nil}
-use mathlib.Core.Path.{_≡_, refl, sym, ap, _∙_}
+use Prim.Native.Nat.{_%_, _*_, _+_, _/_, _<_, suc, ℕ}
+use mathlib.Core.List.{List, [], _++_, _∷_, append-assoc, append-nil}
+use mathlib.Core.Path.{_∙_, _≡_, ap, refl, sym}
 use native.Mathlib.Decide.{ℕ-discrete}
-use native.Mathlib.Nat.{add-zero, add-assoc}
+use native.Mathlib.Nat.{add-assoc, add-zero}
 use native.Mathlib.Omega.{arith}
 use borrow.Author.Tests.{eq-eqb, ne-eqb}
-use lib.ListN.{getD, length-append, set, length, drop}
-use Rattle.frame.specs.Entries.{placed, entriesBytes, entryBytes, listed, entriesOf}
+use lib.ListN.{drop, getD, length, length-append, set}
+use Rattle.frame.specs.Entries.{entriesBytes, entriesOf, entryBytes, listed, placed}
 use Rattle.frame.specs.declared.entries.Entry.{Entry}
-use Rattle.matrix.proofs.Array.{length-flat, place-row, count-flat, place-column}
+use Rattle.matrix.proofs.Array.{count-flat, length-flat, place-column, place-row}
 use Rattle.matrix.proofs.Matrix.{nonZero-none, nonZero-one}
 use Rattle.matrix.proofs.Sums.{sum-first}
 use Rattle.matrix.specs.Array.{flat}
-use Rattle.matrix.specs.Matrix.{Matrix, nonZero, sum, count}
+use Rattle.matrix.specs.Matrix.{Matrix, count, nonZero, sum}
 use Rattle.wire.proofs.Bytes.{put-nil, rest}
-use Rattle.wire.specs.Bytes.{put, le32}
+use Rattle.wire.specs.Bytes.{le32, put}
 
 pub length-entry : (a : Entry) → length (entryBytes a) ≡ 6
 unfolding entryBytes le32

@@ -6,7 +6,7 @@ pub mod Passed
 pub mod Lookup
 pub mod Rising
 pub mod Parse
-pub mod Most
 pub mod Written
 pub mod Reading
 pub mod RoundTrip
+pub mod Framing

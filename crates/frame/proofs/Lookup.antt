@@ -1,20 +1,20 @@
 -- The entries of a matrix and the matrix of entries: each is the other's inverse. Assumes nothing.
-use Prim.Native.Nat.{ℕ, zero, suc, _+_, _*_, _/_, _%_, _≤_, _<_}
+use Prim.Native.Nat.{_%_, _*_, _+_, _/_, _<_, _≤_, suc, zero, ℕ}
 use mathlib.Core.Bool.{_&&_}
-use mathlib.Core.List.{List, [], _∷_, _++_}
-use mathlib.Core.Path.{_≡_, refl, sym, ap, _∙_, fun-ext}
-use native.Mathlib.Decide.{ℕ-discrete, decLt}
+use mathlib.Core.List.{List, [], _++_, _∷_}
+use mathlib.Core.Path.{_∙_, _≡_, ap, fun-ext, refl, sym}
+use native.Mathlib.Decide.{decLt, ℕ-discrete}
 use native.Mathlib.Nat.{add-zero, zero-add}
 use native.Mathlib.Omega.{arith}
-use lib.Dec.{eqb→eq, eqb, not-T}
-use lib.ListN.{getD, List·getD-eq-default}
+use lib.Dec.{eqb, eqb→eq, not-T}
+use lib.ListN.{List·getD-eq-default, getD}
 use Rattle.frame.proofs.EntryLists.{placed-none, placed-one}
-use Rattle.frame.specs.Entries.{listed, matrixOf, placed, entriesOf}
+use Rattle.frame.specs.Entries.{entriesOf, listed, matrixOf, placed}
 use Rattle.frame.specs.declared.entries.Entry.{Entry}
-use Rattle.matrix.proofs.Array.{place-row, getD-flat, length-flat, place-column}
+use Rattle.matrix.proofs.Array.{getD-flat, length-flat, place-column, place-row}
 use Rattle.matrix.specs.Array.{flat, listFrom}
 use Rattle.matrix.specs.Matrix.{Matrix}
-use Rattle.wire.proofs.Tests.{and-T, T-and, eq→eqb, cond-no, cond-yes}
+use Rattle.wire.proofs.Tests.{T-and, and-T, cond-no, cond-yes, eq→eqb}
 
 -- every entry of a list has the property P
 abbrev pub Each : (Entry → Type 0) → List Entry → Type 0

@@ -1,19 +1,19 @@
 -- The bytes of a frame and what is read from them: bytes written read back, and what was read, written again, is the same bytes. Assumes nothing.
-use Prim.Native.Nat.{ℕ, zero, suc, _+_, _*_, _≤_, _<_}
-use mathlib.Core.List.{List, [], _∷_, _++_}
-use mathlib.Core.Path.{_≡_, refl, ap, ap₂, _∙_}
+use Prim.Native.Nat.{_*_, _+_, _<_, _≤_, suc, zero, ℕ}
+use mathlib.Core.List.{List, [], _++_, _∷_}
+use mathlib.Core.Path.{_∙_, _≡_, ap, ap₂, refl}
 use native.Mathlib.Decide.{decLt}
 use native.Mathlib.Nat.{add-assoc}
 use native.Mathlib.Omega.{arith}
-use lib.ListN.{drop, length-take, List·getD-eq-default, length, getD, take}
-use lib.Seq.{getD-drop, take-add, getD-take, drop-drop}
+use lib.ListN.{List·getD-eq-default, drop, getD, length, length-take, take}
+use lib.Seq.{drop-drop, getD-drop, getD-take, take-add}
 use Rattle.frame.proofs.Lookup.{Each}
-use Rattle.frame.specs.Entries.{entryAt, entriesFrom, entriesBytes, entryBytes}
-use Rattle.frame.specs.Header.{headerBytes, header}
+use Rattle.frame.specs.Entries.{entriesBytes, entriesFrom, entryAt, entryBytes}
+use Rattle.frame.specs.Header.{header, headerBytes}
 use Rattle.frame.specs.declared.entries.Entry.{Entry}
 use Rattle.matrix.specs.Array.{listFrom}
-use Rattle.wire.proofs.Bytes.{four-bytes, rest, four-back}
-use Rattle.wire.specs.Bytes.{u32At, le32, AllBytes}
+use Rattle.wire.proofs.Bytes.{four-back, four-bytes, rest}
+use Rattle.wire.specs.Bytes.{AllBytes, le32, u32At}
 
 -- a run of bytes, one by one (general law of lists)
 pub run-bytes : (r k : ℕ) (s : List ℕ) → k + r ≤ length s → listFrom k r (λ i. getD s i 0) ≡ take r (drop k s)

@@ -1,19 +1,19 @@
 -- What the refusals 8 to 11 tell of a run of bytes that meets none of them, rule by rule, and that bytes which keep these rules meet none. Assumes nothing.
-use Prim.Native.Nat.{ℕ, _+_, _*_, _≤_, _<_}
-use mathlib.Core.Bool.{not, cond, _&&_, _||_}
+use Prim.Native.Nat.{_*_, _+_, _<_, _≤_, ℕ}
+use mathlib.Core.Bool.{_&&_, _||_, cond, not}
 use mathlib.Core.List.{List}
-use mathlib.Core.Logic.{⊎-elim, _⊎_, inl, inr}
+use mathlib.Core.Logic.{_⊎_, inl, inr, ⊎-elim}
 use mathlib.Core.Path.{_≡_}
 use native.Mathlib.Omega.{arith}
-use lib.Dec.{eqb→eq, leb→le, le→leb, lt→ltb, ltb→lt, eqb, ltb, leb, nltb→le, T}
+use lib.Dec.{T, eqb, eqb→eq, leb, leb→le, le→leb, ltb, ltb→lt, lt→ltb, nltb→le}
 use lib.ListN.{length}
 use Rattle.frame.specs.Entries.{entriesFrom}
 use Rattle.frame.specs.Header.{header}
-use Rattle.frame.specs.Refusals.{wrongTrailer, eachOk, wrongKind, frameRefusal, wrongAddress, wrongBody, rising, wrongContent, wrongEntries, entryOk}
+use Rattle.frame.specs.Refusals.{eachOk, entryOk, frameRefusal, rising, wrongAddress, wrongBody, wrongContent, wrongEntries, wrongKind, wrongTrailer}
 use Rattle.frame.specs.declared.entries.Entry.{Entry}
 use Rattle.frame.specs.declared.header.Header.{Header}
-use Rattle.wire.proofs.Tests.{is-false, all-seven, skipped, not-not, or-not, no-four, is-true, and-T, or-T, ne→neqb, if-not, neqb→ne, no-three, not-if, if-then, eq→eqb, then-if, le→nltb}
-use Rattle.wire.specs.Limits.{maxFrame, maxBody, maxCount}
+use Rattle.wire.proofs.Tests.{all-seven, and-T, eq→eqb, if-not, if-then, is-false, is-true, le→nltb, neqb→ne, ne→neqb, no-four, no-three, not-if, not-not, or-T, or-not, skipped, then-if}
+use Rattle.wire.specs.Limits.{maxBody, maxCount, maxFrame}
 use Rattle.wire.specs.Trailer.{countBack, hasTrailer}
 
 -- the rules of an entry

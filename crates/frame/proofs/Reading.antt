@@ -1,24 +1,26 @@
 -- What a sound frame reads as: a sound message, whose frame is the same bytes. Assumes nothing.
-use Prim.Native.Nat.{ℕ, _+_, _-_, _*_, _≤_, _<_}
+use Prim.Native.Nat.{_*_, _+_, _-_, _<_, _≤_, ℕ}
 use mathlib.Core.List.{List, append-assoc}
 use mathlib.Core.Logic.{_⊎_, inl, inr}
-use mathlib.Core.Path.{_≡_, sym, ap, _∙_}
+use mathlib.Core.Path.{_∙_, _≡_, ap, sym}
 use native.Mathlib.Omega.{arith}
-use lib.ListN.{length-drop, drop, take, length}
+use lib.ListN.{drop, length, length-drop, take}
 use lib.Seq.{length-take-le, take-add}
 use Rattle.frame.proofs.EntryLists.{length-entriesOf}
-use Rattle.frame.proofs.Lookup.{place, entries-back, look-each, Each, each-map, Stands}
-use Rattle.frame.proofs.Parse.{entries-again, length-from, bytes-take, bytes-drop, header-back}
-use Rattle.frame.proofs.Passed.{Kept, passes-kept, EntryKept}
+use Rattle.frame.proofs.Lookup.{Each, Stands, each-map, entries-back, look-each, place}
+use Rattle.frame.proofs.Parse.{bytes-drop, bytes-take, entries-again, header-back, length-from}
+use Rattle.frame.proofs.Passed.{EntryKept, Kept, passes-kept}
 use Rattle.frame.proofs.Rising.{each-kept, rising-ordered}
-use Rattle.frame.specs.Entries.{matrixOf, entriesFrom, entriesOf}
-use Rattle.frame.specs.Frame.{front, headerOf, decode, encode}
-use Rattle.frame.specs.Header.{header, kindOf, kindByte}
+use Rattle.frame.specs.Entries.{entriesFrom, entriesOf, matrixOf}
+use Rattle.frame.specs.Frame.{decode, encode, front, headerOf}
+use Rattle.frame.specs.Header.{header, kindByte, kindOf}
 use Rattle.frame.specs.RoundTrip.{SoundFrame}
 use Rattle.frame.specs.declared.entries.Entry.{Entry}
 use Rattle.frame.specs.declared.header.Header.{Header}
-use Rattle.matrix.specs.Message.{Sound, user, extra, SoundEntry}
+use Rattle.matrix.specs.Matrix.{count}
+use Rattle.matrix.specs.Message.{Sound, SoundEntry, extra, user}
 use Rattle.wire.proofs.Trailer.{has-sealed, trailed}
+use Rattle.wire.specs.Trailer.{trailer}
 
 -- the byte of a kind
 kind-again : (b : ℕ) → (b ≡ 1) ⊎ (b ≡ 2) → kindByte (kindOf b) ≡ b

@@ -1,18 +1,18 @@
 -- The tests of a list of entries: each entry keeps the rules, and entries that rise by row then column stand at rising places. Assumes nothing.
-use Prim.Native.Nat.{ℕ, _+_, _<_}
+use Prim.Native.Nat.{_+_, _<_, ℕ}
 use mathlib.Core.Bool.{_&&_, _||_}
 use mathlib.Core.List.{List, [], _∷_}
 use mathlib.Core.Logic.{_⊎_, inl, inr}
 use mathlib.Core.Path.{_≡_}
 use native.Mathlib.Decide.{decLt}
 use native.Mathlib.Omega.{arith}
-use lib.Dec.{T, eqb→eq, eqb, ltb→lt, ltb, lt→ltb}
-use Rattle.frame.proofs.Lookup.{Each, Stands, Ordered, place}
-use Rattle.frame.proofs.Passed.{EntryKept, kept-entry, entry-kept}
-use Rattle.frame.specs.Refusals.{entryOk, before, rising, eachOk, risingAfter}
+use lib.Dec.{T, eqb, eqb→eq, ltb, ltb→lt, lt→ltb}
+use Rattle.frame.proofs.Lookup.{Each, Ordered, Stands, place}
+use Rattle.frame.proofs.Passed.{EntryKept, entry-kept, kept-entry}
+use Rattle.frame.specs.Refusals.{before, eachOk, entryOk, rising, risingAfter}
 use Rattle.frame.specs.declared.entries.Entry.{Entry}
 use Rattle.frame.specs.declared.header.Header.{Header}
-use Rattle.wire.proofs.Tests.{is-false, eq→eqb, is-true, le→nltb, or-T, T-and, and-T}
+use Rattle.wire.proofs.Tests.{T-and, and-T, eq→eqb, is-false, is-true, le→nltb, or-T}
 
 -- each entry of a list that passes keeps the rules, and the other way round
 pub each-kept : (n : ℕ) (h : Header) (l : List Entry) → T (eachOk n h l) → Each (EntryKept n h) l

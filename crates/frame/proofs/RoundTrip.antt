@@ -1,8 +1,8 @@
 -- The round trip: each sound message has one sound frame, each sound frame one sound message, and each is read back from the other. Assumes nothing.
-use mathlib.Core.Path.{sym, ap, _∙_}
-use Rattle.frame.proofs.Reading.{decode-sound, decode-same, encode-decode}
-use Rattle.frame.proofs.Written.{encode-sound, encode-most, few-121, length-encode, decode-encode}
-use Rattle.frame.specs.Frame.{encode, decode}
+use mathlib.Core.Path.{_∙_, ap, sym}
+use Rattle.frame.proofs.Reading.{decode-same, decode-sound, encode-decode}
+use Rattle.frame.proofs.Written.{decode-encode, encode-most, encode-sound, few-121, length-encode}
+use Rattle.frame.specs.Frame.{decode, encode}
 use Rattle.frame.specs.RoundTrip.{RoundTrip}
 
 pub roundTrip : RoundTrip

@@ -1,20 +1,20 @@
 -- A loop that writes entries: what is written and what is left make the whole. And how the entries of an array go row by row. Assumes nothing.
 -- of the entries `whole`, to be written over o₀ from `at` on, those in `left` are still to be written over o from `pos` on
-use Prim.Native.Nat.{ℕ, zero, suc, _+_, _-_, _*_, _/_, _%_, _≤_, _<_}
-use mathlib.Core.List.{List, [], _∷_, _++_, append-nil}
-use mathlib.Core.Path.{_≡_, refl, sym, ap, _∙_}
+use Prim.Native.Nat.{_%_, _*_, _+_, _-_, _/_, _<_, _≤_, suc, zero, ℕ}
+use mathlib.Core.List.{List, [], _++_, _∷_, append-nil}
+use mathlib.Core.Path.{_∙_, _≡_, ap, refl, sym}
 use native.Mathlib.Decide.{ℕ-discrete}
-use native.Mathlib.Nat.{add-zero, zero-add, sub-zero}
+use native.Mathlib.Nat.{add-zero, sub-zero, zero-add}
 use native.Mathlib.Omega.{arith}
-use lib.ListN.{drop-of-length-le, length-drop, take, take-append-drop, drop, length, length-append, getD}
-use lib.Seq.{getD-drop, length-take-le, drop-drop, getD-take}
-use Rattle.frame.proofs.EntryLists.{listed-append, entries-append, length-entries, placed-none, listed-rest, put-none}
-use Rattle.frame.specs.Entries.{placed, entriesBytes, listed}
+use lib.ListN.{drop, drop-of-length-le, getD, length, length-append, length-drop, take, take-append-drop}
+use lib.Seq.{drop-drop, getD-drop, getD-take, length-take-le}
+use Rattle.frame.proofs.EntryLists.{entries-append, length-entries, listed-append, listed-rest, placed-none, put-none}
+use Rattle.frame.specs.Entries.{entriesBytes, listed, placed}
 use Rattle.frame.specs.declared.entries.Entry.{Entry}
-use Rattle.matrix.proofs.Array.{place-column, entry-in, place-row, length-flat}
-use Rattle.matrix.proofs.Matrix.{only-zero, only-col}
-use Rattle.matrix.specs.Array.{entry, listFrom, flat}
-use Rattle.matrix.specs.Matrix.{only, Matrix}
+use Rattle.matrix.proofs.Array.{entry-in, length-flat, place-column, place-row}
+use Rattle.matrix.proofs.Matrix.{only-col, only-zero}
+use Rattle.matrix.specs.Array.{entry, flat, listFrom}
+use Rattle.matrix.specs.Matrix.{Matrix, only}
 use Rattle.wire.proofs.Bytes.{length-put, put-append}
 use Rattle.wire.specs.Bytes.{put}
 
@@ -34,7 +34,7 @@ writing-part o₀ at whole o pos left first later o′ pos′ w e p q =
       same = ap length p ∙ length-put o pos (entriesBytes first) ∙ w .same;
       place = omega (arith, w .place, ap length e ∙ length-append first later);
       bytes =
-      rw (p, q, ← length-entries first, ← put-append o pos (entriesBytes first) (entriesBytes later), ← entries-append first later, ← e) (w .bytes);
+          rw (p, q, ← length-entries first, ← put-append o pos (entriesBytes first) (entriesBytes later), ← entries-append first later, ← e) (w .bytes);
     }
 
 pub writing-room : (o₀ : List ℕ) (at : ℕ) (whole : List Entry) (o : List ℕ) (pos : ℕ) (left first later : List Entry) → Writing o₀ at whole o pos left

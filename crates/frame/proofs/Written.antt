@@ -1,30 +1,30 @@
 -- A sound message's frame: its length, its bytes, that it meets no refusal, and that it reads back as the message. Assumes nothing.
-use Prim.Native.Nat.{ℕ, zero, suc, _+_, _*_, _≤_, _<_}
-use mathlib.Core.List.{List, [], _∷_, _++_, append-assoc}
+use Prim.Native.Nat.{_*_, _+_, _<_, _≤_, suc, zero, ℕ}
+use mathlib.Core.List.{List, [], _++_, _∷_, append-assoc}
 use mathlib.Core.Logic.{_⊎_, inl, inr}
-use mathlib.Core.Path.{_≡_, refl, ap}
+use mathlib.Core.Path.{_≡_, ap, refl}
 use native.Mathlib.Nat.{mul-le-mul}
 use native.Mathlib.Omega.{arith}
-use lib.ListN.{drop, length-append, length, take}
-use lib.Seq.{take-append-seam, drop-at, drop-drop}
+use lib.ListN.{drop, length, length-append, take}
+use lib.Seq.{drop-at, drop-drop, take-append-seam}
 use Rattle.frame.proofs.EntryLists.{length-entries, length-entriesOf}
-use Rattle.frame.proofs.Lookup.{each-entries, Each, look-entries, entries-ordered, each-map}
-use Rattle.frame.proofs.Most.{count-121}
-use Rattle.frame.proofs.Parse.{small-bytes, read-entries, bytes-append}
-use Rattle.frame.proofs.Passed.{Kept, kept-passes, EntryKept}
-use Rattle.frame.proofs.Rising.{ordered-rising, kept-each}
-use Rattle.frame.specs.Entries.{entriesFrom, entriesOf, entriesBytes, entryBytes, matrixOf}
-use Rattle.frame.specs.Frame.{front, headerOf, decode, encode}
-use Rattle.frame.specs.Header.{kindByte, headerBytes, kindOf, header}
+use Rattle.frame.proofs.Lookup.{Each, each-entries, each-map, entries-ordered, look-entries}
+use Rattle.frame.proofs.Parse.{bytes-append, read-entries, small-bytes}
+use Rattle.frame.proofs.Passed.{EntryKept, Kept, kept-passes}
+use Rattle.frame.proofs.Rising.{kept-each, ordered-rising}
+use Rattle.frame.specs.Entries.{entriesBytes, entriesFrom, entriesOf, entryBytes, matrixOf}
+use Rattle.frame.specs.Frame.{decode, encode, front, headerOf}
+use Rattle.frame.specs.Header.{header, headerBytes, kindByte, kindOf}
 use Rattle.frame.specs.Refusals.{frameRefusal}
 use Rattle.frame.specs.RoundTrip.{SoundFrame}
 use Rattle.frame.specs.declared.entries.Entry.{Entry}
+use Rattle.matrix.proofs.Bounds.{count-121}
 use Rattle.matrix.specs.Matrix.{count}
-use Rattle.matrix.specs.Message.{Sound, user, Kind, InRange, extra, Message}
-use Rattle.wire.proofs.Trailer.{sealed-has, length-sealed, sealed-count}
-use Rattle.wire.specs.Bytes.{le32, AllBytes, le16}
+use Rattle.matrix.specs.Message.{InRange, Kind, Message, Sound, extra, user}
+use Rattle.wire.proofs.Trailer.{length-sealed, sealed-count, sealed-has}
+use Rattle.wire.specs.Bytes.{AllBytes, le16, le32}
 use Rattle.wire.specs.Limits.{maxFrame}
-use Rattle.wire.specs.Trailer.{checksum, sealed, trailer, counted}
+use Rattle.wire.specs.Trailer.{checksum, counted, sealed, trailer}
 
 -- the kind and its byte
 kind-back : (k : Kind) → kindOf (kindByte k) ≡ k

@@ -1,20 +1,19 @@
 -- Laws of the array of a matrix: its length, its elements, a store into it, and how its non-zero elements are counted. Assumes nothing.
 -- the list f k, .. of r elements
-use Prim.Native.Nat.{ℕ, zero, suc, _+_, _*_, _/_, _%_, _≤_, _<_}
-use mathlib.Core.Bool.{cond, _&&_}
+use Prim.Native.Nat.{_%_, _*_, _+_, _/_, _<_, _≤_, suc, zero, ℕ}
+use mathlib.Core.Bool.{_&&_, cond}
 use mathlib.Core.List.{List, _∷_}
-use mathlib.Core.Path.{_≡_, refl, sym, ap, ap₂, _∙_, fun-ext}
-use native.Mathlib.Decide.{ℕ-discrete, decLt}
+use mathlib.Core.Path.{_∙_, _≡_, ap, ap₂, fun-ext, refl, sym}
+use native.Mathlib.Decide.{decLt, ℕ-discrete}
 use native.Mathlib.Nat.{add-zero, zero-add}
 use native.Mathlib.Omega.{arith}
-use lib.Dec.{eqb-refl, eqb→eq, not-T, lt→ltb, ltb, ltb→lt, eqb}
-use lib.ListN.{length-set, getD, set, length}
-use lib.Seq.{getD-set-same, getD-set-other, ext-getD}
-use Rattle.matrix.proofs.Matrix.{nonZero-le}
-use Rattle.matrix.proofs.Sums.{sum-upto, sum-rows, sum-ones, sum-swap}
-use Rattle.matrix.specs.Array.{flat, listFrom, entry}
-use Rattle.matrix.specs.Matrix.{sum, Matrix, columnCount, count, nonZero}
-use Rattle.wire.proofs.Tests.{and-T, cond-no, cond-yes, T-and}
+use lib.Dec.{eqb, eqb-refl, eqb→eq, ltb, ltb→lt, lt→ltb, not-T}
+use lib.ListN.{getD, length, length-set, set}
+use lib.Seq.{ext-getD, getD-set-other, getD-set-same}
+use Rattle.matrix.proofs.Sums.{sum-rows, sum-swap, sum-upto}
+use Rattle.matrix.specs.Array.{entry, flat, listFrom}
+use Rattle.matrix.specs.Matrix.{Matrix, columnCount, count, nonZero, sum}
+use Rattle.wire.proofs.Tests.{T-and, and-T, cond-no, cond-yes}
 
 pub length-list : (k r : ℕ) (f : ℕ → ℕ) → length (listFrom k r f) ≡ r
 length-list k zero f = refl
@@ -129,7 +128,3 @@ count-ext f g h =
 
 pub count-flat : (m : Matrix) → sum 144 (λ k. nonZero (getD (flat m) k 0)) ≡ count m
 count-flat m = count-array (flat m) ∙ count-ext (entry (flat m)) m (λ x y h k. entry-flat m x y h k)
-
--- at most 144
-pub count-le : (m : Matrix) → count m ≤ 144
-count-le m = rw (← count-flat m) (sum-ones 144 (λ k. nonZero (getD (flat m) k 0)) (λ k _. nonZero-le (getD (flat m) k 0)))

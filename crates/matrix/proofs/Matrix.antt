@@ -1,16 +1,16 @@
 -- Laws of the matrix and of what the steps do to it, place by place. Assumes nothing.
 -- the largest: it is one of the numbers, and none has more
-use Prim.Native.Nat.{ℕ, zero, suc, _+_, _≤_, _<_, max}
+use Prim.Native.Nat.{_+_, _<_, _≤_, max, suc, zero, ℕ}
 use mathlib.Core.Bool.{cond}
-use mathlib.Core.Logic.{_⊎_, inl, inr, _≢_}
-use mathlib.Core.Path.{_≡_, refl, sym, ap, _∙_}
+use mathlib.Core.Logic.{_≢_, _⊎_, inl, inr}
+use mathlib.Core.Path.{_∙_, _≡_, ap, refl, sym}
 use native.Mathlib.Decide.{ℕ-discrete}
 use native.Mathlib.Nat.{not-suc-le-zero}
 use native.Mathlib.Numerals.{add-one}
 use native.Mathlib.Omega.{arith}
-use lib.Dec.{eqb, lt→ltb, nltb→le, ltb, ltb→lt}
-use Rattle.matrix.specs.Matrix.{only, clear, Matrix, largest, merge, nonZero}
-use Rattle.wire.proofs.Tests.{le→nltb, cond-no, cond-other, cond-elim, cond-same, cond-yes}
+use lib.Dec.{eqb, ltb, ltb→lt, lt→ltb, nltb→le}
+use Rattle.matrix.specs.Matrix.{Matrix, clear, largest, merge, nonZero, only}
+use Rattle.wire.proofs.Tests.{cond-elim, cond-no, cond-other, cond-same, cond-yes, le→nltb}
 
 pub largest-lt : (k : ℕ) (g : ℕ → ℕ) → largest (suc k) g < suc k
 largest-lt zero g = cond-elim (λ (z : ℕ). z < 1) (ltb (g 0) (g 0)) 0 0 (λ t. omega arith) (λ t. omega arith)

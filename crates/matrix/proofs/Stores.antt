@@ -1,18 +1,18 @@
 -- What the stores of the code make of an array: a column cleared row by row, and one entry merged. Assumes nothing.
 -- column j zero in the rows before r
-use Prim.Native.Nat.{ℕ, suc, _+_, _*_, _<_, max}
-use mathlib.Core.Bool.{cond, _&&_}
+use Prim.Native.Nat.{_*_, _+_, _<_, max, suc, ℕ}
+use mathlib.Core.Bool.{_&&_, cond}
 use mathlib.Core.List.{List}
-use mathlib.Core.Path.{_≡_, sym, _∙_}
-use native.Mathlib.Decide.{ℕ-discrete, decLt}
+use mathlib.Core.Path.{_∙_, _≡_, sym}
+use native.Mathlib.Decide.{decLt, ℕ-discrete}
 use native.Mathlib.Omega.{arith}
-use lib.Dec.{eqb, ltb, lt→ltb, ltb→lt, eqb→eq, not-T, eqb-refl}
-use lib.ListN.{set, getD, length}
-use Rattle.matrix.proofs.Array.{stored, stored-here, flat-ext, flat-back, entry-in, set-entry, set-flat, stored-else}
-use Rattle.matrix.proofs.Matrix.{clear-gone, merge-max, clear-mine, clear-keep, merge-own}
-use Rattle.matrix.specs.Array.{flat, entry}
-use Rattle.matrix.specs.Matrix.{clear, single, Matrix, merge}
-use Rattle.wire.proofs.Tests.{T-and, cond-no, and-T, cond-yes}
+use lib.Dec.{eqb, eqb-refl, eqb→eq, ltb, ltb→lt, lt→ltb, not-T}
+use lib.ListN.{getD, length, set}
+use Rattle.matrix.proofs.Array.{entry-in, flat-back, flat-ext, set-entry, set-flat, stored, stored-else, stored-here}
+use Rattle.matrix.proofs.Matrix.{clear-gone, clear-keep, clear-mine, merge-max, merge-own}
+use Rattle.matrix.specs.Array.{entry, flat}
+use Rattle.matrix.specs.Matrix.{Matrix, clear, merge, single}
+use Rattle.wire.proofs.Tests.{T-and, and-T, cond-no, cond-yes}
 
 unfoldable pub emptied : ℕ → ℕ → Matrix → Matrix
 emptied r j m x y = cond (eqb y j && ltb x r) 0 (m x y)

@@ -1,8 +1,8 @@
 -- Laws of the sum f 0 + .. + f (k - 1). Assumes nothing.
-use Prim.Native.Nat.{ℕ, zero, suc, _+_, _*_, _/_, _%_, _≤_, _<_}
+use Prim.Native.Nat.{_%_, _*_, _+_, _-_, _/_, _<_, _≤_, suc, zero, ℕ}
 use mathlib.Core.Logic.{_≢_}
-use mathlib.Core.Path.{_≡_, refl, sym, ap, _∙_}
-use native.Mathlib.Decide.{ℕ-discrete, decLe}
+use mathlib.Core.Path.{_∙_, _≡_, ap, refl, sym}
+use native.Mathlib.Decide.{decLe, ℕ-discrete}
 use native.Mathlib.Nat.{add-zero, not-suc-le-zero}
 use native.Mathlib.Numerals.{add-one}
 use native.Mathlib.Omega.{arith}
@@ -99,3 +99,19 @@ sum-zero (suc k) = omega (arith, sum-zero k)
 pub sum-swap : (a b : ℕ) (g : ℕ → ℕ → ℕ) → sum a (λ x. sum b (λ y. g x y)) ≡ sum b (λ y. sum a (λ x. g x y))
 sum-swap zero b g = sym (sum-zero b)
 sum-swap (suc a) b g = omega (arith, sum-swap a b g, sum-add b (λ y. sum a (λ x. g x y)) (λ y. g a y))
+
+-- a sum of k terms of at most c, and one of which a term is zero
+pub sum-bound : (k c : ℕ) (f : ℕ → ℕ) → ((x : ℕ) → x < k → f x ≤ c) → sum k f ≤ c * k
+sum-bound zero c f h = omega arith
+sum-bound (suc k) c f h = omega (arith, sum-bound k c f (λ x l. h x (omega arith)), h k (omega arith))
+
+sum-short : (k c l : ℕ) (f : ℕ → ℕ) → l < k → f l ≡ 0 → ((x : ℕ) → x < k → f x ≤ c) → sum k f + c ≤ c * k
+sum-short zero c l f h z b = absurd (omega arith)
+sum-short (suc k) c l f h z b = go (λ (p : l < k). sum-short k c l f p z (λ x q. b x (omega arith))) (ℕ-discrete l k)
+  where
+    go : (l < k → sum k f + c ≤ c * k) → Dec (l ≡ k) → sum (suc k) f + c ≤ c * suc k
+    go ih (yes e) = let q : f k ≡ 0 = ap f (sym e) ∙ z in omega (arith, sum-bound k c f (λ x p. b x (omega arith)))
+    go ih (no e) = omega (arith, ih (omega arith), b k (omega arith))
+
+pub sum-less : (k c l : ℕ) (f : ℕ → ℕ) → l < k → f l ≡ 0 → ((x : ℕ) → x < k → f x ≤ c) → sum k f ≤ c * k - c
+sum-less k c l f h z b = omega (arith, sum-short k c l f h z b)

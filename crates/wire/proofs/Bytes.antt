@@ -1,13 +1,13 @@
 -- Laws of bytes written over a list, of the rest of a list in a loop, and of little-endian fields. Assumes nothing.
-use Prim.Native.Nat.{ℕ, suc, _+_, _*_, _/_, _%_, _≤_, _<_}
-use mathlib.Core.Path.{_≡_, refl, ap, sym, _∙_}
-use mathlib.Core.List.{List, [], _∷_, _++_}
-use native.Mathlib.Nat.{add-zero, add-assoc, div-div-eq-div-mul, div-add-mod, mod-eq-of-lt}
+use Prim.Native.Nat.{_%_, _*_, _+_, _/_, _<_, _≤_, suc, ℕ}
+use mathlib.Core.List.{List, [], _++_, _∷_}
+use mathlib.Core.Path.{_∙_, _≡_, ap, refl, sym}
+use native.Mathlib.Nat.{add-assoc, add-zero, div-add-mod, div-div-eq-div-mul, mod-eq-of-lt}
 use native.Mathlib.Numerals.{add-one}
 use native.Mathlib.Omega.{arith}
-use lib.ListN.{length, take, drop, getD, set, length-set, take-append-drop}
-use lib.Seq.{drop-cons, drop-length, take-set-le, drop-set-lt, take-suc-set, append-snoc, length-take-le, drop-at, take-append-seam}
-use Rattle.wire.specs.Bytes.{put, le16, le32, u16At, u32At}
+use lib.ListN.{drop, getD, length, length-set, set, take, take-append-drop}
+use lib.Seq.{append-snoc, drop-at, drop-cons, drop-length, drop-set-lt, length-take-le, take-append-seam, take-suc-set}
+use Rattle.wire.specs.Bytes.{le16, le32, put}
 
 -- the rest of a list, one element further, in the form `i + 1` of the code
 pub rest : (s : List ℕ) (i : ℕ) → i < length s → drop i s ≡ getD s i 0 ∷ drop (i + 1) s

@@ -1,11 +1,11 @@
 -- Tests: what a Boolean test tells, as the type `T b` of its proofs, choices by a test, and the results of tests that functions made. Assumes nothing.
-use Prim.Native.Nat.{ℕ, suc, _≤_, _<_}
-use mathlib.Core.Bool.{Bool, true, false, not, cond, _&&_, _||_}
-use mathlib.Core.Logic.{_⊎_, inl, inr, _≢_}
-use mathlib.Core.Path.{_≡_, refl, sym, subst, _∙_}
+use Prim.Native.Nat.{_<_, _≤_, suc, ℕ}
+use mathlib.Core.Bool.{Bool, _&&_, _||_, cond, false, not, true}
+use mathlib.Core.Logic.{_≢_, _⊎_, inl, inr}
+use mathlib.Core.Path.{_∙_, _≡_, refl, subst, sym}
 use native.Mathlib.Omega.{arith}
-use borrow.Author.Tests.{not-true, not-false}
-use lib.Dec.{T-not, eqb→eq, leb→le, not-T, eqb-refl, eqb, ltb, leb, T}
+use borrow.Author.Tests.{not-false, not-true}
+use lib.Dec.{T, T-not, eqb, eqb-refl, eqb→eq, leb, leb→le, ltb, not-T}
 
 pub is-true : (b : Bool) → T b → b ≡ true
 is-true true t = refl

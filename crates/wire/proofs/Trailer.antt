@@ -1,18 +1,18 @@
 -- Laws of the checksum and the trailer. Assumes nothing.
-use Prim.Native.Nat.{ℕ, suc, _+_, _-_, _*_, _%_, _≤_, _<_}
+use Prim.Native.Nat.{_%_, _*_, _+_, _-_, _<_, _≤_, suc, ℕ}
 use mathlib.Core.Bool.{_&&_}
-use mathlib.Core.List.{List, [], _∷_, _++_, append-assoc}
-use mathlib.Core.Path.{_≡_, refl, sym, ap, ap₂, _∙_}
+use mathlib.Core.List.{List, [], _++_, _∷_, append-assoc}
+use mathlib.Core.Path.{_∙_, _≡_, ap, ap₂, refl, sym}
 use native.Mathlib.Nat.{add-assoc}
 use native.Mathlib.Numerals.{add-one}
 use native.Mathlib.Omega.{arith}
-use lib.Dec.{T, le→leb, eqb, eqb→eq, leb→le, leb}
-use lib.ListN.{length-append, take-append-drop, drop, getD, length, length-drop, take}
-use lib.Seq.{take-all, length-take-le, take-at, take-add, getD-append-add, drop-cons, drop-at, drop-drop}
-use Rattle.wire.proofs.Bytes.{put-back, two-back, two-bytes, put-eq, put-append, rest-end, length-le16, rest}
-use Rattle.wire.proofs.Tests.{eq→eqb, and-T, T-and}
-use Rattle.wire.specs.Bytes.{put, le16, AllBytes, u16At}
-use Rattle.wire.specs.Trailer.{sealed, checksum, counted, sumBack, trailer, hasTrailer, total, countBack}
+use lib.Dec.{T, eqb, eqb→eq, leb, leb→le, le→leb}
+use lib.ListN.{drop, getD, length, length-append, length-drop, take, take-append-drop}
+use lib.Seq.{drop-at, drop-cons, drop-drop, getD-append-add, length-take-le, take-add, take-all, take-at}
+use Rattle.wire.proofs.Bytes.{length-le16, put-append, put-back, put-eq, rest, rest-end, two-back, two-bytes}
+use Rattle.wire.proofs.Tests.{T-and, and-T, eq→eqb}
+use Rattle.wire.specs.Bytes.{AllBytes, le16, put, u16At}
+use Rattle.wire.specs.Trailer.{checksum, countBack, counted, hasTrailer, sealed, sumBack, total, trailer}
 
 -- the u16 total by wrapping add, begun at acc
 unfoldable pub wrapped : ℕ → List ℕ → ℕ

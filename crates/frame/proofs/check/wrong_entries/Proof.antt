@@ -77,8 +77,7 @@ loop-again c =
     let r = o .before .before in
     let w = r .before .before in
     let a = w .before .before .before .args in
-    let right = passed _ _ (o .before .entry-ok .ensures) (o .if1 .left) in
-    (
+    let right = passed _ _ (o .before .entry-ok .ensures) (o .if1 .left) in (
       search needs,
       search needs,
       w .loop .inv .2

@@ -1,10 +1,10 @@
 -- The loop has written the entries of the rows before x. Assumes nothing.
-use Prim.Native.Nat.{_-_, _*_, _≤_}
+use Prim.Native.Nat.{_*_, _+_, _-_, _≤_}
 use mathlib.Core.Path.{_≡_, ap}
 use native.Mathlib.Omega.{arith}
 use borrow.Author.Needs.{needs}
 use lib.ListN.{drop}
-use Rattle.frame.proofs.Writing.{writing-start, rows-rest, writing-part, writing-room, writing-end, rows-end, Writing}
+use Rattle.frame.proofs.Writing.{Writing, rowOf, rows-end, rows-rest, writing-end, writing-part, writing-room, writing-start}
 use Rattle.frame.specs.Entries.{entriesOf, listed}
 use Rattle.frame.specs.Refusals.{before}
 use Rattle.matrix.proofs.Array.{flat-back}
@@ -29,9 +29,8 @@ loop-holds c =
 write-row-requires : tie.Need-write-row-requires Inv-loop μ-loop
 write-row-requires c κs =
     let w = c .before .before in
-    let s = w .before .before in
-    (
-      writing-room _ _ _ _ _ _ _ _ (w .loop .inv .1) (rows-rest (s .args .m .now) (w .loop .x) (s .pre .1) (search needs)) (s .pre .0),
+    let s = w .before .before in (
+      writing-room _ _ _ _ _ _ (listed (12 * w .loop .x) (rowOf (s .args .m .now) (w .loop .x))) (listed (12 * (w .loop .x + 1)) (drop (12 * (w .loop .x + 1)) (s .args .m .now))) (w .loop .inv .1) (rows-rest (s .args .m .now) (w .loop .x) (s .pre .1) (search needs)) (s .pre .0),
       s .pre .1,
       search needs,
     )
@@ -46,8 +45,7 @@ loop-again : tie.Need-loop-again Inv-loop μ-loop
 loop-again c =
     let b = c .before .before in
     let w = b .before .before .before in
-    let s = w .before .before in
-    (
+    let s = w .before .before in (
       search needs,
       writing-part _ _ _ _ _ _ _ _ _ _ (w .loop .inv .1) (rows-rest (s .args .m .now) (w .loop .x) (s .pre .1) (search needs)) (b .write-row .ensures .1) (b .write-row .ensures .0),
     )

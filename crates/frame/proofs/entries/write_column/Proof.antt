@@ -1,10 +1,10 @@
 -- The loop has written the entries of column l before row x. Assumes nothing.
-use Prim.Native.Nat.{_-_, _*_, _≤_}
+use Prim.Native.Nat.{_*_, _+_, _-_, _≤_}
 use native.Mathlib.Omega.{arith}
 use borrow.Author.Needs.{needs}
-use lib.ListN.{drop}
-use Rattle.frame.proofs.Writing.{writing-start, writing-part, writing-room, writing-end, column-rest, rows-end, Writing}
-use Rattle.frame.specs.Entries.{entriesOf, listed}
+use lib.ListN.{drop, getD}
+use Rattle.frame.proofs.Writing.{Writing, column-rest, rows-end, writing-end, writing-part, writing-room, writing-start}
+use Rattle.frame.specs.Entries.{entriesOf, listed, placed}
 use Rattle.frame.specs.Refusals.{before}
 use Rattle.matrix.proofs.Array.{length-flat}
 use Rattle.matrix.specs.Array.{entry, flat}
@@ -40,9 +40,8 @@ write-place-requires : tie.Need-write-place-requires Inv-loop μ-loop
 write-place-requires c κs =
     let w = c .before .before .before in
     let s = w .before .before in
-    let a = s .args in
-    (
-      writing-room _ _ _ _ _ _ _ _ (w .loop .inv .1) (column-rest (a .m .now) (a .l) (w .loop .x) (s .pre .2) (search needs)) (s .pre .0),
+    let a = s .args in (
+      writing-room _ _ _ _ _ _ (placed (12 * w .loop .x + a .l) (getD (a .m .now) (12 * w .loop .x + a .l) 0)) (listed (12 * (w .loop .x + 1)) (drop (12 * (w .loop .x + 1)) (flat (only (a .l) (entry (a .m .now)))))) (w .loop .inv .1) (column-rest (a .m .now) (a .l) (w .loop .x) (s .pre .2) (search needs)) (s .pre .0),
       search needs,
       s .pre .2,
     )
@@ -58,8 +57,7 @@ loop-again c =
     let b = c .before .before in
     let w = b .before .before .before .before in
     let s = w .before .before in
-    let a = s .args in
-    (
+    let a = s .args in (
       search needs,
       writing-part _ _ _ _ _ _ _ _ _ _ (w .loop .inv .1) (column-rest (a .m .now) (a .l) (w .loop .x) (s .pre .2) (search needs)) (b .write-place .ensures .1) (b .write-place .ensures .0),
     )

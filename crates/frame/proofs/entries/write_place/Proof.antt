@@ -1,10 +1,10 @@
 -- A zero is not written, and another entry is. Assumes nothing.
-use Prim.Native.Nat.{_+_, _*_}
+use Prim.Native.Nat.{_*_, _+_}
 use mathlib.Core.Option.{none}
-use mathlib.Core.Path.{sym, _∙_}
+use mathlib.Core.Path.{_∙_, sym}
 use native.Mathlib.Omega.{arith}
 use borrow.Author.Needs.{needs}
-use Rattle.frame.proofs.EntryLists.{placed-at, length-placed, placed-none, put-single, put-none}
+use Rattle.frame.proofs.EntryLists.{length-placed, placed-at, placed-none, put-none, put-single}
 use Rattle.frame.specs.Refusals.{before}
 use Rattle.matrix.proofs.Matrix.{nonZero-one}
 use Rattle.frame.proofs.entries.write_place.Statement.{statement}

@@ -1,11 +1,11 @@
 -- The loop has written the entries of row x before column y. Assumes nothing.
-use Prim.Native.Nat.{_+_, _-_, _*_, _≤_}
+use Prim.Native.Nat.{_*_, _+_, _-_, _≤_}
 use native.Mathlib.Nat.{add-zero}
 use native.Mathlib.Omega.{arith}
 use borrow.Author.Needs.{needs}
-use lib.ListN.{drop}
-use Rattle.frame.proofs.Writing.{rowOf, writing-start, writing-part, writing-room, writing-end, row-end, row-rest, Writing}
-use Rattle.frame.specs.Entries.{listed}
+use lib.ListN.{drop, getD}
+use Rattle.frame.proofs.Writing.{Writing, row-end, row-rest, rowOf, writing-end, writing-part, writing-room, writing-start}
+use Rattle.frame.specs.Entries.{listed, placed}
 use Rattle.frame.specs.Refusals.{before}
 use Rattle.frame.proofs.entries.write_row.Statement.{statement}
 use Rattle.frame.proofs.entries.write_row.Tie as tie
@@ -37,9 +37,8 @@ write-place-requires : tie.Need-write-place-requires Inv-loop μ-loop
 write-place-requires c κs =
     let w = c .before .before .before in
     let s = w .before .before in
-    let a = s .args in
-    (
-      writing-room _ _ _ _ _ _ _ _ (w .loop .inv .1) (row-rest (a .m .now) (a .x) (w .loop .y) (s .pre .1) (s .pre .2) (search needs)) (s .pre .0),
+    let a = s .args in (
+      writing-room _ _ _ _ _ _ (placed (12 * a .x + w .loop .y) (getD (a .m .now) (12 * a .x + w .loop .y) 0)) (listed (12 * a .x + (w .loop .y + 1)) (drop (w .loop .y + 1) (rowOf (a .m .now) (a .x)))) (w .loop .inv .1) (row-rest (a .m .now) (a .x) (w .loop .y) (s .pre .1) (s .pre .2) (search needs)) (s .pre .0),
       s .pre .2,
       search needs,
     )
@@ -55,8 +54,7 @@ loop-again c =
     let b = c .before .before in
     let w = b .before .before .before .before in
     let s = w .before .before in
-    let a = s .args in
-    (
+    let a = s .args in (
       search needs,
       writing-part _ _ _ _ _ _ _ _ _ _ (w .loop .inv .1) (row-rest (a .m .now) (a .x) (w .loop .y) (s .pre .1) (s .pre .2) (search needs)) (b .write-place .ensures .1) (b .write-place .ensures .0),
     )

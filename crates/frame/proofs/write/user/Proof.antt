@@ -1,57 +1,90 @@
+-- Header, entries, body and trailer, one after the other. Assumes nothing.
+use Prim.Native.Nat.{_+_}
+use mathlib.Core.Path.{_∙_, ap}
+use native.Mathlib.Omega.{arith}
 use borrow.Author.Needs.{needs}
+use lib.ListN.{length}
+use Rattle.frame.proofs.EntryLists.{length-entriesOf}
+use Rattle.frame.proofs.Framing.{front-length, header-user, put-frame, put-front}
+use Rattle.frame.specs.Header.{headerBytes}
+use Rattle.frame.specs.Refusals.{before}
+use Rattle.frame.specs.declared.header.Header.{Header}
+use Rattle.matrix.proofs.Bounds.{count-le}
+use Rattle.matrix.specs.Array.{entry}
+use Rattle.matrix.specs.Matrix.{count}
+use Rattle.matrix.specs.Message.{userMessage}
+use Rattle.wire.specs.Bytes.{put}
 use Rattle.frame.proofs.write.user.Statement.{statement}
 use Rattle.frame.proofs.write.user.Tie as tie
-use Rattle.frame.proofs.write.user.Reads as reads
-use Rattle.frame.proofs.write.user.Lts as lts
-use Rattle.frame.proofs.entries.write.Reads as entries-write-reads
-use Rattle.frame.proofs.header.write.Reads as header-write-reads
-use Rattle.matrix.proofs.count.Reads as count-reads
-use Rattle.wire.proofs.copy.Reads as copy-reads
-use Rattle.wire.proofs.write_trailer.Reads as write-trailer-reads
 
--- src/write.rt:32:16
 count-requires : tie.Need-count-requires
 count-requires c κs = search needs
 
--- src/write.rt:32:16
 cast-t11 : tie.Need-cast-t11
-cast-t11 c = ?
+cast-t11 c =
+    let s = c .before .before .before .before in
+    record { fits = omega (arith, c .count .ensures, count-le (entry (s .args .m .now))) }
 
--- src/write.rt:33:16
 cast-t13 : tie.Need-cast-t13
 cast-t13 c = search needs
 
--- src/write.rt:25:5
 write-requires : tie.Need-write-requires
 write-requires c κs = search needs
 
--- src/write.rt:39:42
 add-write : tie.Need-add-write
 add-write c = search needs
 
--- src/write.rt:39:9
 write-requires-2 : tie.Need-write-requires-2
-write-requires-2 c κs = ?
+write-requires-2 c κs =
+    let b = c .before .before .before in
+    let s = b .before .before .before .before .before in
+    (omega (arith, length-entriesOf (entry (s .args .m .now)), s .pre .0, b .write .kept .0), s .pre .1)
 
--- src/write.rt:40:5
 copy-requires : tie.Need-copy-requires
-copy-requires c κs = ?
+copy-requires c κs =
+    let d = c .before .before .before in
+    let b = d .before .before .before .before in
+    let s = b .before .before .before .before .before in
+    omega (arith, length-entriesOf (entry (s .args .m .now)), s .pre .0, b .write .kept .0, d .write2 .kept .0, d .write2 .ensures .0)
 
--- src/write.rt:41:34
 add-write-trailer : tie.Need-add-write-trailer
-add-write-trailer c = ?
+add-write-trailer c =
+    let d = c .before .before .before .before .before .before .before in
+    let b = d .before .before .before .before in
+    let s = b .before .before .before .before .before in
+    record { fits = omega (arith, length-entriesOf (entry (s .args .m .now)), s .pre .0, b .write .kept .0, d .write2 .kept .0, d .write2 .ensures .0) }
 
--- src/write.rt:41:5
 write-trailer-requires : tie.Need-write-trailer-requires
-write-trailer-requires c κs = ?
+write-trailer-requires c κs =
+    let f = c .before .before .before in
+    let d = f .before .before .before .before in
+    let b = d .before .before .before .before in
+    let s = b .before .before .before .before .before in
+    let e = length-entriesOf (entry (s .args .m .now)) in
+    let n = count-le (entry (s .args .m .now)) in (
+      omega (arith, d .write2 .ensures .0),
+      omega (arith, s .pre .0, b .write .kept .0, d .write2 .kept .0, f .copy .kept .0, d .write2 .ensures .0),
+      omega (arith, s .pre .2, d .write2 .ensures .0),
+    )
 
--- src/write.rt:21:1
 same-length : tie.Need-same-length
 same-length c = search needs
 
--- src/write.rt:21:1
 returns : tie.Need-returns
-returns c = ?
+returns c =
+    let h = c .before .before in
+    let f = h .before .before .before .before in
+    let d = f .before .before .before .before in
+    let b = d .before .before .before .before in
+    let s = b .before .before .before .before .before in
+    let a = s .args in
+    let m = userMessage (a .a .from) (a .a .to) (a .a .n) (a .a .cap) (entry (a .m .now)) (a .body .now) in
+    let e = length-entriesOf (entry (a .m .now)) in
+    let head = b .write .ensures ∙ ap (λ (x : Header). put (a .out .now) (a .at) (headerBytes x)) (header-user (a .a) (entry (a .m .now)) (a .body .now) (b .before .count .result) (b .before .count .ensures)) in
+    let body = put-front (a .out .now) (a .at) m _ _ _ (d .write2 .result) head (d .write2 .ensures .1) (d .write2 .ensures .0) (f .copy .ensures) in (
+      omega (arith, h .write-trailer .ensures .0, d .write2 .ensures .0),
+      put-frame (a .out .now) (a .at) m _ _ (d .write2 .result + length (a .body .now)) body (omega (arith, front-length m, d .write2 .ensures .0)) (omega (arith, s .pre .0, d .write2 .ensures .0)) (h .write-trailer .ensures .1),
+    )
 
 pub user-spec : {M : Type 1} → statement M
 user-spec =
