@@ -14,7 +14,6 @@ use Rattle.frame.specs.Header.{header}
 use Rattle.frame.specs.Refusals.{before, eachOk, entryOk, frameRefusal, rising, risingAfter, wrongAddress, wrongBody, wrongContent, wrongEntries, wrongKind, wrongTrailer}
 use Rattle.frame.specs.declared.entries.Entry.{Entry}
 use Rattle.frame.specs.declared.header.Header.{Header}
-use Rattle.matrix.specs.Matrix.{count}
 use Rattle.wire.proofs.Tests.{no-three, not-not, of-false}
 use Rattle.wire.proofs.Trailer.{trailed}
 use Rattle.wire.specs.Bytes.{AllBytes}

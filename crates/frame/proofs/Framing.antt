@@ -22,10 +22,10 @@ pub length-header : (h : Header) → length (headerBytes h) ≡ 8
 unfolding headerBytes
 length-header h = refl
 
-pub front-length : (m : Message) → length (front m) ≡ 8 + 6 * length (entriesOf (m .entries)) + length (m .body)
-unfolding front
-front-length m =
-    omega (arith, length-append (headerBytes (headerOf m)) (entriesBytes (entriesOf (m .entries)) ++ m .body), length-append (entriesBytes (entriesOf (m .entries))) (m .body), length-header (headerOf m), length-entries (entriesOf (m .entries)))
+-- how many bytes stand in front of the trailer
+pub front-length : (m : Message) → length (front m) ≡ 8 + 6 * count (m .entries) + length (m .body)
+unfolding front headerBytes
+front-length m = simp (length-append, length-entries, length-entriesOf) (omega arith)
 
 -- header, entries and body
 pub put-front : (o : List ℕ) (at : ℕ) (m : Message) (o₁ o₂ o₃ : List ℕ) (pos : ℕ) → o₁ ≡ put o at (headerBytes (headerOf m)) → o₂ ≡ put o₁ (at + 8) (entriesBytes (entriesOf (m .entries)))

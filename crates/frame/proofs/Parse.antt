@@ -2,54 +2,22 @@
 use Prim.Native.Nat.{_*_, _+_, _<_, _≤_, suc, zero, ℕ}
 use mathlib.Core.List.{List, [], _++_, _∷_}
 use mathlib.Core.Path.{_∙_, _≡_, ap, ap₂, refl}
-use native.Mathlib.Decide.{decLt}
 use native.Mathlib.Nat.{add-assoc}
 use native.Mathlib.Omega.{arith}
-use lib.ListN.{List·getD-eq-default, drop, getD, length, length-take, take}
-use lib.Seq.{drop-drop, getD-drop, getD-take, take-add}
+use lib.ListN.{drop, getD, length, take}
+use lib.Seq.{drop-drop, getD-drop, take-add}
 use Rattle.frame.proofs.Lookup.{Each}
 use Rattle.frame.specs.Entries.{entriesBytes, entriesFrom, entryAt, entryBytes}
 use Rattle.frame.specs.Header.{header, headerBytes}
 use Rattle.frame.specs.declared.entries.Entry.{Entry}
-use Rattle.matrix.specs.Array.{listFrom}
-use Rattle.wire.proofs.Bytes.{four-back, four-bytes, rest}
+use Rattle.matrix.proofs.Array.{list-run}
+use Rattle.wire.proofs.Bytes.{four-back, four-bytes}
 use Rattle.wire.specs.Bytes.{AllBytes, le32, u32At}
-
--- a run of bytes, one by one (general law of lists)
-pub run-bytes : (r k : ℕ) (s : List ℕ) → k + r ≤ length s → listFrom k r (λ i. getD s i 0) ≡ take r (drop k s)
-run-bytes zero k s h = refl
-run-bytes (suc r) k s h = rw (rest s k (omega arith)) (ap (λ (t : List ℕ). getD s k 0 ∷ t) (run-bytes r (k + 1) s (omega arith)))
-
--- a part of a list of bytes is one (general laws of lists)
-pub bytes-drop : (k : ℕ) (s : List ℕ) → AllBytes s → AllBytes (drop k s)
-bytes-drop k s b i = rw getD-drop (b (k + i))
-
-pub bytes-take : (k : ℕ) (s : List ℕ) → AllBytes s → AllBytes (take k s)
-bytes-take k s b i = go (decLt i k)
-  where
-    go : Dec (i < k) → getD (take k s) i 0 < 256
-    go (yes h) = rw (getD-take k s i 0 h) (b i)
-    go (no h) = rw (List·getD-eq-default (take k s) 0 {n = i} (rw length-take (omega arith))) (omega arith)
-
-pub bytes-append : (s t : List ℕ) → AllBytes s → AllBytes t → AllBytes (s ++ t)
-bytes-append [] t a b i = b i
-bytes-append (x ∷ s) t a b zero = a 0
-bytes-append (x ∷ s) t a b (suc i) = bytes-append s t (λ j. a (suc j)) b i
-
--- numbers below 256, one by one: of a list that is written out a fact that `omega` reads
-abbrev pub Small : List ℕ → Type 0
-Small [] = Unit {0}
-Small (x ∷ s) = (x < 256) × Small s
-
-pub small-bytes : (s : List ℕ) → Small s → AllBytes s
-small-bytes [] h i = omega arith
-small-bytes (x ∷ s) h zero = h .0
-small-bytes (x ∷ s) h (suc i) = small-bytes s (h .1) i
 
 -- the header
 pub header-back : (s : List ℕ) → 8 ≤ length s → headerBytes (header s) ≡ take 8 s
 unfolding headerBytes header
-header-back s h = run-bytes 8 0 s h
+header-back s h = list-run 8 0 s h
 
 -- an entry, by the bytes t that stand from its place on
 entry-read : (s t : List ℕ) (k : ℕ) → drop (8 + 6 * k) s ≡ t
@@ -78,7 +46,7 @@ read-entries s r (a ∷ l) k v e =
 -- an entry that was read has the bytes that it was read from
 entry-again : (s : List ℕ) (k : ℕ) → AllBytes s → 8 + 6 * k + 6 ≤ length s → entryBytes (entryAt s k) ≡ take 6 (drop (8 + 6 * k) s)
 unfolding entryBytes entryAt u32At
-entry-again s k b h = rw (four-back (getD s (8 + 6 * k + 2) 0) (getD s (8 + 6 * k + 2 + 1) 0) (getD s (8 + 6 * k + 2 + 2) 0) (getD s (8 + 6 * k + 2 + 3) 0) (b (8 + 6 * k + 2)) (b (8 + 6 * k + 2 + 1)) (b (8 + 6 * k + 2 + 2)) (b (8 + 6 * k + 2 + 3))) (simp add-assoc (simp add-assoc at (run-bytes 6 (8 + 6 * k) s h)))
+entry-again s k b h = rw (four-back (getD s (8 + 6 * k + 2) 0) (getD s (8 + 6 * k + 2 + 1) 0) (getD s (8 + 6 * k + 2 + 2) 0) (getD s (8 + 6 * k + 2 + 3) 0) (b (8 + 6 * k + 2)) (b (8 + 6 * k + 2 + 1)) (b (8 + 6 * k + 2 + 2)) (b (8 + 6 * k + 2 + 3))) (simp add-assoc (simp add-assoc at (list-run 6 (8 + 6 * k) s h)))
 
 -- entries that were read have the bytes that they were read from
 pub entries-again : (s : List ℕ) (r k : ℕ) → AllBytes s → 8 + 6 * k + 6 * r ≤ length s → entriesBytes (entriesFrom s k r) ≡ take (6 * r) (drop (8 + 6 * k) s)

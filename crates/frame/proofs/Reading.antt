@@ -8,7 +8,7 @@ use lib.ListN.{drop, length, length-drop, take}
 use lib.Seq.{length-take-le, take-add}
 use Rattle.frame.proofs.EntryLists.{length-entriesOf}
 use Rattle.frame.proofs.Lookup.{Each, Stands, each-map, entries-back, look-each, place}
-use Rattle.frame.proofs.Parse.{bytes-drop, bytes-take, entries-again, header-back, length-from}
+use Rattle.frame.proofs.Parse.{entries-again, header-back, length-from}
 use Rattle.frame.proofs.Passed.{EntryKept, Kept, passes-kept}
 use Rattle.frame.proofs.Rising.{each-kept, rising-ordered}
 use Rattle.frame.specs.Entries.{entriesFrom, entriesOf, matrixOf}
@@ -17,10 +17,9 @@ use Rattle.frame.specs.Header.{header, kindByte, kindOf}
 use Rattle.frame.specs.RoundTrip.{SoundFrame}
 use Rattle.frame.specs.declared.entries.Entry.{Entry}
 use Rattle.frame.specs.declared.header.Header.{Header}
-use Rattle.matrix.specs.Matrix.{count}
 use Rattle.matrix.specs.Message.{Sound, SoundEntry, extra, user}
+use Rattle.wire.proofs.Bytes.{bytes-drop, bytes-take}
 use Rattle.wire.proofs.Trailer.{has-sealed, trailed}
-use Rattle.wire.specs.Trailer.{trailer}
 
 -- the byte of a kind
 kind-again : (b : ℕ) → (b ≡ 1) ⊎ (b ≡ 2) → kindByte (kindOf b) ≡ b

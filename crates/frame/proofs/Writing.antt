@@ -1,17 +1,17 @@
 -- A loop that writes entries: what is written and what is left make the whole. And how the entries of an array go row by row. Assumes nothing.
 -- of the entries `whole`, to be written over o₀ from `at` on, those in `left` are still to be written over o from `pos` on
 use Prim.Native.Nat.{_%_, _*_, _+_, _-_, _/_, _<_, _≤_, suc, zero, ℕ}
-use mathlib.Core.List.{List, [], _++_, _∷_, append-nil}
+use mathlib.Core.List.{List, [], _++_, append-nil}
 use mathlib.Core.Path.{_∙_, _≡_, ap, refl, sym}
 use native.Mathlib.Decide.{ℕ-discrete}
-use native.Mathlib.Nat.{add-zero, sub-zero, zero-add}
+use native.Mathlib.Nat.{zero-add}
 use native.Mathlib.Omega.{arith}
 use lib.ListN.{drop, drop-of-length-le, getD, length, length-append, length-drop, take, take-append-drop}
 use lib.Seq.{drop-drop, getD-drop, getD-take, length-take-le}
 use Rattle.frame.proofs.EntryLists.{entries-append, length-entries, listed-append, listed-rest, placed-none, put-none}
 use Rattle.frame.specs.Entries.{entriesBytes, listed, placed}
 use Rattle.frame.specs.declared.entries.Entry.{Entry}
-use Rattle.matrix.proofs.Array.{entry-in, length-flat, place-column, place-row}
+use Rattle.matrix.proofs.Array.{drop-list, entry-in, length-flat, place-column, place-row, take-list}
 use Rattle.matrix.proofs.Matrix.{only-col, only-zero}
 use Rattle.matrix.specs.Array.{entry, flat, listFrom}
 use Rattle.matrix.specs.Matrix.{Matrix, only}
@@ -96,20 +96,6 @@ one-placed (suc r) k j f a b z = go (ℕ-discrete k j) (λ c. one-placed r (k + 
     go : Dec (k ≡ j) → (k + 1 ≤ j → listed (k + 1) (listFrom (k + 1) r f) ≡ placed j (f j)) → placed k (f k) ++ listed (k + 1) (listFrom (k + 1) r f) ≡ placed j (f j)
     go (yes e) ih = rw (none-placed r (k + 1) f (λ i p q. z i (omega arith) (omega arith) (omega arith)), append-nil, e)
     go (no n) ih = rw (placed-none k (f k) (z k n (omega arith) (omega arith))) (ih (omega arith))
-
--- a part of the list f k, ..
-drop-list : (a k r : ℕ) (f : ℕ → ℕ) → a ≤ r → drop a (listFrom k r f) ≡ listFrom (k + a) (r - a) f
-drop-list zero k r f h = rw (add-zero, sub-zero)
-drop-list (suc a) k zero f h = absurd (omega arith)
-drop-list (suc a) k (suc r) f h =
-    let e : k + 1 + a ≡ k + suc a = omega arith in
-    let d : suc r - suc a ≡ r - a = omega arith in
-    drop-list a (k + 1) r f (omega arith) ∙ rw (e, d)
-
-take-list : (a k r : ℕ) (f : ℕ → ℕ) → a ≤ r → take a (listFrom k r f) ≡ listFrom k a f
-take-list zero k r f h = refl
-take-list (suc a) k zero f h = absurd (omega arith)
-take-list (suc a) k (suc r) f h = ap (λ (l : List ℕ). f k ∷ l) (take-list a (k + 1) r f (omega arith))
 
 -- a row of a matrix with one column
 pub row-only : (m : Matrix) (l x : ℕ) → l < 12 → x < 12 → listed (12 * x) (rowOf (flat (only l m)) x) ≡ placed (12 * x + l) (m x l)

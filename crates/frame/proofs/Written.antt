@@ -3,13 +3,13 @@ use Prim.Native.Nat.{_*_, _+_, _<_, _≤_, suc, zero, ℕ}
 use mathlib.Core.List.{List, [], _++_, _∷_, append-assoc}
 use mathlib.Core.Logic.{_⊎_, inl, inr}
 use mathlib.Core.Path.{_≡_, ap, refl}
-use native.Mathlib.Nat.{mul-le-mul}
 use native.Mathlib.Omega.{arith}
-use lib.ListN.{drop, length, length-append, take}
+use lib.ListN.{drop, length, take}
 use lib.Seq.{drop-at, drop-drop, take-append-seam}
 use Rattle.frame.proofs.EntryLists.{length-entries, length-entriesOf}
+use Rattle.frame.proofs.Framing.{front-length}
 use Rattle.frame.proofs.Lookup.{Each, each-entries, each-map, entries-ordered, look-entries}
-use Rattle.frame.proofs.Parse.{bytes-append, read-entries, small-bytes}
+use Rattle.frame.proofs.Parse.{read-entries}
 use Rattle.frame.proofs.Passed.{EntryKept, Kept, kept-passes}
 use Rattle.frame.proofs.Rising.{kept-each, ordered-rising}
 use Rattle.frame.specs.Entries.{entriesBytes, entriesFrom, entriesOf, entryBytes, matrixOf}
@@ -18,13 +18,14 @@ use Rattle.frame.specs.Header.{header, headerBytes, kindByte, kindOf}
 use Rattle.frame.specs.Refusals.{frameRefusal}
 use Rattle.frame.specs.RoundTrip.{SoundFrame}
 use Rattle.frame.specs.declared.entries.Entry.{Entry}
-use Rattle.matrix.proofs.Bounds.{count-121}
+use Rattle.matrix.proofs.Bounds.{cap-most, count-121}
 use Rattle.matrix.specs.Matrix.{count}
-use Rattle.matrix.specs.Message.{InRange, Kind, Message, Sound, extra, user}
-use Rattle.wire.proofs.Trailer.{length-sealed, sealed-count, sealed-has}
-use Rattle.wire.specs.Bytes.{AllBytes, le16, le32}
+use Rattle.matrix.specs.Message.{Kind, Message, Sound, extra, user}
+use Rattle.wire.proofs.Bytes.{bytes-append, small-bytes}
+use Rattle.wire.proofs.Trailer.{bytes-sealed, length-sealed, sealed-count, sealed-has}
+use Rattle.wire.specs.Bytes.{AllBytes, le32}
 use Rattle.wire.specs.Limits.{maxFrame}
-use Rattle.wire.specs.Trailer.{checksum, counted, sealed, trailer}
+use Rattle.wire.specs.Trailer.{sealed, trailer}
 
 -- the kind and its byte
 kind-back : (k : Kind) → kindOf (kindByte k) ≡ k
@@ -43,21 +44,10 @@ kind-small : (k : Kind) → kindByte k ≤ 2
 kind-small user = omega arith
 kind-small extra = omega arith
 
--- numbers in range are bytes
-pub cap-most : (n cap : ℕ) → InRange n cap → cap ≤ 144
-cap-most n cap r = omega (arith, r .capTo, mul-le-mul (r .atMost12) (r .atMost12))
-
-bytes-le16 : (v : ℕ) → AllBytes (le16 v)
-unfolding le16
-bytes-le16 v = small-bytes (le16 v) (omega arith)
-
+-- entries are made of bytes
 bytes-entry : (a : Entry) → a .row < 12 → a .column < 12 → AllBytes (entryBytes a)
 unfolding entryBytes le32
 bytes-entry a h k = small-bytes (entryBytes a) (omega arith)
-
-bytes-sealed : (s : List ℕ) → AllBytes s → AllBytes (sealed s)
-unfolding sealed trailer
-bytes-sealed s b = bytes-append s (le16 (length s) ++ le16 (checksum (counted s))) b (bytes-append (le16 (length s)) (le16 (checksum (counted s))) (bytes-le16 (length s)) (bytes-le16 (checksum (counted s))))
 
 bytes-entries : (l : List Entry) → Each (λ a. (a .row < 12) × (a .column < 12)) l → AllBytes (entriesBytes l)
 unfolding entriesBytes
@@ -69,13 +59,9 @@ pub header-encode : (m : Message) → header (encode m) ≡ headerOf m
 unfolding header encode sealed front headerBytes
 header-encode m = refl
 
-pub length-front : (m : Message) → length (front m) ≡ 8 + 6 * count (m .entries) + length (m .body)
-unfolding front headerBytes
-length-front m = simp (length-append, length-entries, length-entriesOf) (omega arith)
-
 pub length-encode : (m : Message) → length (encode m) ≡ 12 + 6 * count (m .entries) + length (m .body)
 unfolding encode
-length-encode m = omega (arith, length-sealed (front m), length-front m)
+length-encode m = omega (arith, length-sealed (front m), front-length m)
 
 entries-encode : (m : Message) → drop 8 (encode m) ≡ entriesBytes (entriesOf (m .entries)) ++ (m .body ++ trailer (front m))
 unfolding encode sealed front headerBytes
@@ -144,7 +130,7 @@ module _ (m : Message) (s : Sound m) where
       header-bytes = small-bytes (headerBytes (headerOf m)) (omega (arith, cap-most (m .n) (m .cap) (s .range), few-121, length-entriesOf (m .entries), kind-small (m .kind)))
 
   front-short : length (front m) < 65536
-  front-short = omega (arith, length-front m, few-121, s .short)
+  front-short = omega (arith, front-length m, few-121, s .short)
 
   encode-kept : Kept (m .n) (m .cap) (encode m) (headerOf m) (entriesOf (m .entries))
   unfolding headerOf encode
@@ -160,7 +146,7 @@ module _ (m : Message) (s : Sound m) where
         from = s .from;
         to = s .to;
         apart = s .apart;
-        size = omega (arith, length-entriesOf (m .entries), length-front m, sealed-count (front m) front-short);
+        size = omega (arith, length-entriesOf (m .entries), front-length m, sealed-count (front m) front-short);
         short = s .short;
         bare = λ k. ap length (s .bare (kind-two (m .kind) k));
         few = rw length-entriesOf (s .few);

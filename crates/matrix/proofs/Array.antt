@@ -1,18 +1,19 @@
 -- Laws of the array of a matrix: its length, its elements, a store into it, and how its non-zero elements are counted. Assumes nothing.
 -- the list f k, .. of r elements
-use Prim.Native.Nat.{_%_, _*_, _+_, _/_, _<_, _≤_, suc, zero, ℕ}
+use Prim.Native.Nat.{_%_, _*_, _+_, _-_, _/_, _<_, _≤_, suc, zero, ℕ}
 use mathlib.Core.Bool.{_&&_, cond}
 use mathlib.Core.List.{List, _∷_}
 use mathlib.Core.Path.{_∙_, _≡_, ap, ap₂, fun-ext, refl, sym}
 use native.Mathlib.Decide.{decLt, ℕ-discrete}
-use native.Mathlib.Nat.{add-zero, zero-add}
+use native.Mathlib.Nat.{add-zero, sub-zero, zero-add}
 use native.Mathlib.Omega.{arith}
 use lib.Dec.{eqb, eqb-refl, eqb→eq, ltb, ltb→lt, lt→ltb, not-T}
-use lib.ListN.{getD, length, length-set, set}
+use lib.ListN.{drop, getD, length, length-set, set, take}
 use lib.Seq.{ext-getD, getD-set-other, getD-set-same}
 use Rattle.matrix.proofs.Sums.{sum-rows, sum-swap, sum-upto}
 use Rattle.matrix.specs.Array.{entry, flat, listFrom}
 use Rattle.matrix.specs.Matrix.{Matrix, columnCount, count, nonZero, sum}
+use Rattle.wire.proofs.Bytes.{rest}
 use Rattle.wire.proofs.Tests.{T-and, and-T, cond-no, cond-yes}
 
 pub length-list : (k r : ℕ) (f : ℕ → ℕ) → length (listFrom k r f) ≡ r
@@ -29,6 +30,25 @@ getD-list k (suc r) f (suc i) h =
 pub list-ext : (k r : ℕ) (f g : ℕ → ℕ) → ((i : ℕ) → k ≤ i → i < k + r → f i ≡ g i) → listFrom k r f ≡ listFrom k r g
 list-ext k zero f g h = refl
 list-ext k (suc r) f g h = ap₂ _∷_ (h k (omega arith) (omega arith)) (list-ext (k + 1) r f g (λ i a b. h i (omega arith) (omega arith)))
+
+-- a part of the list f k, ..
+pub drop-list : (a k r : ℕ) (f : ℕ → ℕ) → a ≤ r → drop a (listFrom k r f) ≡ listFrom (k + a) (r - a) f
+drop-list zero k r f h = rw (add-zero, sub-zero)
+drop-list (suc a) k zero f h = absurd (omega arith)
+drop-list (suc a) k (suc r) f h =
+    let e : k + 1 + a ≡ k + suc a = omega arith in
+    let d : suc r - suc a ≡ r - a = omega arith in
+    drop-list a (k + 1) r f (omega arith) ∙ rw (e, d)
+
+pub take-list : (a k r : ℕ) (f : ℕ → ℕ) → a ≤ r → take a (listFrom k r f) ≡ listFrom k a f
+take-list zero k r f h = refl
+take-list (suc a) k zero f h = absurd (omega arith)
+take-list (suc a) k (suc r) f h = ap (λ (l : List ℕ). f k ∷ l) (take-list a (k + 1) r f (omega arith))
+
+-- a part of a list, element by element
+pub list-run : (r k : ℕ) (s : List ℕ) → k + r ≤ length s → listFrom k r (λ i. getD s i 0) ≡ take r (drop k s)
+list-run zero k s h = refl
+list-run (suc r) k s h = rw (rest s k (omega arith)) (ap (λ (t : List ℕ). getD s k 0 ∷ t) (list-run r (k + 1) s (omega arith)))
 
 -- the place of row x and column y
 pub place-row : (x y : ℕ) → y < 12 → (12 * x + y) / 12 ≡ x

@@ -2,6 +2,7 @@
 -- a column has at most 11 entries, and there are 11 columns that have any
 use Prim.Native.Nat.{_<_, _≤_, ℕ}
 use mathlib.Core.Path.{_≡_, ap}
+use native.Mathlib.Nat.{mul-le-mul}
 use native.Mathlib.Omega.{arith}
 use lib.ListN.{getD}
 use Rattle.matrix.proofs.Array.{count-flat}
@@ -10,6 +11,7 @@ use Rattle.matrix.proofs.Matrix.{nonZero-le, nonZero-none, only-col, on
 use Rattle.matrix.proofs.Sums.{sum-at, sum-ext, sum-less, sum-ones, sum-single}
 use Rattle.matrix.specs.Array.{flat}
 use Rattle.matrix.specs.Matrix.{Matrix, columnCount, count, nonZero, only}
+use Rattle.matrix.specs.Message.{InRange}
 
 column-eleven : (m : Matrix) (y : ℕ) → y < 12 → m y y ≡ 0 → columnCount m y ≤ 11
 unfolding columnCount
@@ -37,3 +39,7 @@ only-count m l h =
 -- at most 144
 pub count-le : (m : Matrix) → count m ≤ 144
 count-le m = rw (← count-flat m) (sum-ones 144 (λ k. nonZero (getD (flat m) k 0)) (λ k _. nonZero-le (getD (flat m) k 0)))
+
+-- a cap in range is at most 144
+pub cap-most : (n cap : ℕ) → InRange n cap → cap ≤ 144
+cap-most n cap r = omega (arith, r .capTo, mul-le-mul (r .atMost12) (r .atMost12))

@@ -1,13 +1,14 @@
 -- Laws of bytes written over a list, of the rest of a list in a loop, and of little-endian fields. Assumes nothing.
-use Prim.Native.Nat.{_%_, _*_, _+_, _/_, _<_, _≤_, suc, ℕ}
+use Prim.Native.Nat.{_%_, _*_, _+_, _/_, _<_, _≤_, suc, zero, ℕ}
 use mathlib.Core.List.{List, [], _++_, _∷_}
 use mathlib.Core.Path.{_∙_, _≡_, ap, refl, sym}
+use native.Mathlib.Decide.{decLt}
 use native.Mathlib.Nat.{add-assoc, add-zero, div-add-mod, div-div-eq-div-mul, mod-eq-of-lt}
 use native.Mathlib.Numerals.{add-one}
 use native.Mathlib.Omega.{arith}
-use lib.ListN.{drop, getD, length, length-set, set, take, take-append-drop}
-use lib.Seq.{append-snoc, drop-at, drop-cons, drop-length, drop-set-lt, length-take-le, take-append-seam, take-suc-set}
-use Rattle.wire.specs.Bytes.{le16, le32, put}
+use lib.ListN.{List·getD-eq-default, drop, getD, length, length-set, length-take, set, take, take-append-drop}
+use lib.Seq.{append-snoc, drop-at, drop-cons, drop-length, drop-set-lt, getD-drop, getD-take, length-take-le, take-append-seam, take-suc-set}
+use Rattle.wire.specs.Bytes.{AllBytes, le16, le32, put}
 
 -- the rest of a list, one element further, in the form `i + 1` of the code
 pub rest : (s : List ℕ) (i : ℕ) → i < length s → drop i s ≡ getD s i 0 ∷ drop (i + 1) s
@@ -98,3 +99,33 @@ length-le16 v = refl
 pub length-le32 : (v : ℕ) → length (le32 v) ≡ 4
 unfolding le32
 length-le32 v = refl
+
+-- a part of a list of bytes is one
+pub bytes-drop : (k : ℕ) (s : List ℕ) → AllBytes s → AllBytes (drop k s)
+bytes-drop k s b i = rw getD-drop (b (k + i))
+
+pub bytes-take : (k : ℕ) (s : List ℕ) → AllBytes s → AllBytes (take k s)
+bytes-take k s b i = go (decLt i k)
+  where
+    go : Dec (i < k) → getD (take k s) i 0 < 256
+    go (yes h) = rw (getD-take k s i 0 h) (b i)
+    go (no h) = rw (List·getD-eq-default (take k s) 0 {n = i} (rw length-take (omega arith))) (omega arith)
+
+pub bytes-append : (s t : List ℕ) → AllBytes s → AllBytes t → AllBytes (s ++ t)
+bytes-append [] t a b i = b i
+bytes-append (x ∷ s) t a b zero = a 0
+bytes-append (x ∷ s) t a b (suc i) = bytes-append s t (λ j. a (suc j)) b i
+
+-- numbers below 256, one by one: of a list that is written out a fact that `omega` reads
+abbrev pub Small : List ℕ → Type 0
+Small [] = Unit {0}
+Small (x ∷ s) = (x < 256) × Small s
+
+pub small-bytes : (s : List ℕ) → Small s → AllBytes s
+small-bytes [] h i = omega arith
+small-bytes (x ∷ s) h zero = h .0
+small-bytes (x ∷ s) h (suc i) = small-bytes s (h .1) i
+
+pub bytes-le16 : (v : ℕ) → AllBytes (le16 v)
+unfolding le16
+bytes-le16 v = small-bytes (le16 v) (omega arith)

@@ -9,7 +9,7 @@ use native.Mathlib.Omega.{arith}
 use lib.Dec.{T, eqb, eqb→eq, leb, leb→le, le→leb}
 use lib.ListN.{drop, getD, length, length-append, length-drop, take, take-append-drop}
 use lib.Seq.{drop-at, drop-cons, drop-drop, getD-append-add, length-take-le, take-add, take-all, take-at}
-use Rattle.wire.proofs.Bytes.{length-le16, put-append, put-back, put-eq, rest, rest-end, two-back, two-bytes}
+use Rattle.wire.proofs.Bytes.{bytes-append, bytes-le16, length-le16, put-append, put-back, put-eq, rest, rest-end, two-back, two-bytes}
 use Rattle.wire.proofs.Tests.{T-and, and-T, eq→eqb}
 use Rattle.wire.specs.Bytes.{AllBytes, le16, put, u16At}
 use Rattle.wire.specs.Trailer.{checksum, countBack, counted, hasTrailer, sealed, sumBack, total, trailer}
@@ -159,3 +159,8 @@ has-sealed s b e = go (length s - 4) (trailed s e) refl
         let last : drop (k + 2) s ≡ le16 (checksum (counted f)) =
         sym (take-all 2 (drop (k + 2) s) (simp length-drop (omega (arith, t .long)))) ∙ two-at s (k + 2) (omega (arith, t .long)) ∙ sym second in
         sym (take-append-drop k s) ∙ ap (λ (l : List ℕ). f ++ l) (sym (take-append-drop 2 (drop k s)) ∙ ap₂ _++_ (two-at s k (omega (arith, t .long)) ∙ sym first) (drop-drop 2 k s ∙ last))
+
+-- bytes with their trailer behind them are bytes
+pub bytes-sealed : (s : List ℕ) → AllBytes s → AllBytes (sealed s)
+unfolding sealed trailer
+bytes-sealed s b = bytes-append s (le16 (length s) ++ le16 (checksum (counted s))) b (bytes-append (le16 (length s)) (le16 (checksum (counted s))) (bytes-le16 (length s)) (bytes-le16 (checksum (counted s))))

@@ -1,12 +1,12 @@
 -- The loop has made column j zero in the rows before x; then row i is counted up. Assumes nothing.
-use Prim.Native.Nat.{ℕ, suc, _+_, _-_, _*_, _≤_}
+use Prim.Native.Nat.{_*_, _+_, _-_, _≤_, suc, ℕ}
 use mathlib.Core.List.{List}
-use mathlib.Core.Path.{_≡_, ap, _∙_}
+use mathlib.Core.Path.{_∙_, _≡_, ap}
 use native.Mathlib.Omega.{arith}
 use borrow.Author.Needs.{needs}
-use lib.ListN.{length-set, getD, length, set}
+use lib.ListN.{getD, length, length-set, set}
 use Rattle.matrix.proofs.Array.{entry-in}
-use Rattle.matrix.proofs.Stores.{emptied, emptied-none, emptied-clear, emptied-more}
+use Rattle.matrix.proofs.Stores.{emptied, emptied-clear, emptied-more, emptied-none}
 use Rattle.matrix.specs.Array.{entry, flat}
 use Rattle.matrix.proofs.clear_column.Statement.{statement}
 use Rattle.matrix.proofs.clear_column.Tie as tie

@@ -1,6 +1,6 @@
 -- The loop has counted the rows before x. Assumes nothing.
-use Prim.Native.Nat.{ℕ, _+_, _-_, _*_, _≤_}
-use mathlib.Core.Path.{_≡_, ap, _∙_}
+use Prim.Native.Nat.{_*_, _+_, _-_, _≤_, ℕ}
+use mathlib.Core.Path.{_∙_, _≡_, ap}
 use native.Mathlib.Omega.{arith}
 use borrow.Author.Needs.{needs}
 use lib.ListN.{getD}
@@ -8,7 +8,7 @@ use Rattle.matrix.proofs.Array.{entry-in}
 use Rattle.matrix.proofs.Matrix.{nonZero-le}
 use Rattle.matrix.proofs.Sums.{sum-more}
 use Rattle.matrix.specs.Array.{entry}
-use Rattle.matrix.specs.Matrix.{nonZero, columnCount, sum}
+use Rattle.matrix.specs.Matrix.{columnCount, nonZero, sum}
 use Rattle.matrix.proofs.column_count.Statement.{statement}
 use Rattle.matrix.proofs.column_count.Tie as tie
 

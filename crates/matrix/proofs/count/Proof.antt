@@ -1,13 +1,13 @@
 -- The loop has counted the places before k. Assumes nothing.
 use Prim.Native.Nat.{_-_, _≤_}
-use mathlib.Core.Path.{_≡_, _∙_}
+use mathlib.Core.Path.{_∙_, _≡_}
 use native.Mathlib.Omega.{arith}
 use borrow.Author.Needs.{needs}
 use lib.ListN.{getD}
 use Rattle.matrix.proofs.Array.{count-array}
 use Rattle.matrix.proofs.Matrix.{nonZero-le}
 use Rattle.matrix.proofs.Sums.{sum-more}
-use Rattle.matrix.specs.Matrix.{sum, nonZero}
+use Rattle.matrix.specs.Matrix.{nonZero, sum}
 use Rattle.matrix.proofs.count.Statement.{statement}
 use Rattle.matrix.proofs.count.Tie as tie
 

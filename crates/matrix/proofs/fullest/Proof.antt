@@ -1,12 +1,12 @@
 -- The loop has found the fullest of the columns before y, and how many entries it has. Assumes nothing.
-use Prim.Native.Nat.{ℕ, _-_, _≤_}
-use mathlib.Core.Logic.{⊎-elim, inl, inr}
-use mathlib.Core.Path.{_≡_, sym, ap, _∙_}
+use Prim.Native.Nat.{_-_, _≤_, ℕ}
+use mathlib.Core.Logic.{inl, inr, ⊎-elim}
+use mathlib.Core.Path.{_∙_, _≡_, ap, sym}
 use native.Mathlib.Omega.{arith}
 use borrow.Author.Needs.{needs}
 use Rattle.matrix.proofs.Matrix.{largest-first, largest-turn}
 use Rattle.matrix.specs.Array.{entry}
-use Rattle.matrix.specs.Matrix.{fullest, columnCount, largest}
+use Rattle.matrix.specs.Matrix.{columnCount, fullest, largest}
 use Rattle.matrix.proofs.fullest.Statement.{statement}
 use Rattle.matrix.proofs.fullest.Tie as tie
 

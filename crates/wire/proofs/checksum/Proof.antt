@@ -1,10 +1,10 @@
 -- The loop's total, with the rest of the bytes added by wrapping add, is that of all bytes. Assumes nothing.
-use Prim.Native.Nat.{_+_, _-_, _%_, _≤_, _<_}
-use mathlib.Core.Path.{_≡_, sym, _∙_}
+use Prim.Native.Nat.{_%_, _+_, _-_, _<_, _≤_}
+use mathlib.Core.Path.{_∙_, _≡_, sym}
 use native.Mathlib.Omega.{arith}
 use borrow.Author.Needs.{needs}
-use lib.ListN.{length, drop, getD}
-use Rattle.wire.proofs.Trailer.{wrapped, wrapped-rest, wrapped-checksum, wrapped-end}
+use lib.ListN.{drop, getD, length}
+use Rattle.wire.proofs.Trailer.{wrapped, wrapped-checksum, wrapped-end, wrapped-rest}
 use Rattle.wire.proofs.checksum.Statement.{statement}
 use Rattle.wire.proofs.checksum.Tie as tie
 

@@ -1,10 +1,10 @@
 -- The loop has written the bytes before place i, and the rest is still to be written. Assumes nothing.
 use Prim.Native.Nat.{_+_, _-_, _≤_}
-use mathlib.Core.Path.{_≡_, sym, _∙_}
+use mathlib.Core.Path.{_∙_, _≡_, sym}
 use native.Mathlib.Nat.{add-zero}
 use borrow.Author.Needs.{needs}
-use lib.ListN.{length-set, length, drop}
-use Rattle.wire.proofs.Bytes.{rest-end, put-rest, put-nil}
+use lib.ListN.{drop, length, length-set}
+use Rattle.wire.proofs.Bytes.{put-nil, put-rest, rest-end}
 use Rattle.wire.specs.Bytes.{put}
 use Rattle.wire.proofs.copy.Statement.{statement}
 use Rattle.wire.proofs.copy.Tie as tie

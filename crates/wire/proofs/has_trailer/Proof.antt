@@ -1,13 +1,13 @@
 -- The three tests of `hasTrailer`, in its order. Assumes nothing.
 use Prim.Native.Nat.{_-_}
-use mathlib.Core.Path.{sym, _∙_}
+use mathlib.Core.Path.{_∙_, sym}
 use native.Mathlib.Omega.{arith}
 use borrow.Author.Needs.{needs}
-use borrow.Author.Tests.{lt-leb, le-leb, ne-eqb, eq-eqb}
+use borrow.Author.Tests.{eq-eqb, le-leb, lt-leb, ne-eqb}
 use lib.ListN.{length}
 use lib.Seq.{length-take-le}
 use Rattle.wire.specs.Bytes.{u16At}
-use Rattle.wire.specs.Trailer.{sumBack, countBack, checksum, hasTrailer}
+use Rattle.wire.specs.Trailer.{countBack, hasTrailer, sumBack}
 use Rattle.wire.proofs.has_trailer.Statement.{statement}
 use Rattle.wire.proofs.has_trailer.Tie as tie
 

@@ -3,7 +3,7 @@ use native.Mathlib.Nat.{add-assoc}
 use native.Mathlib.Omega.{arith}
 use borrow.Author.Needs.{needs}
 use lib.ListN.{length-set}
-use Rattle.wire.specs.Bytes.{put, le32}
+use Rattle.wire.specs.Bytes.{le32, put}
 use Rattle.wire.proofs.put_u32.Statement.{statement}
 use Rattle.wire.proofs.put_u32.Tie as tie
 

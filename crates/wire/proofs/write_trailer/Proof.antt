@@ -1,8 +1,7 @@
 -- The count is written, then the sum over it and all before it. Assumes nothing.
-use mathlib.Core.Path.{refl, _∙_}
+use mathlib.Core.Path.{_∙_, refl}
 use borrow.Author.Needs.{needs}
 use Rattle.wire.proofs.Trailer.{put-trailer}
-use Rattle.wire.specs.Trailer.{checksum}
 use Rattle.wire.proofs.write_trailer.Statement.{statement}
 use Rattle.wire.proofs.write_trailer.Tie as tie
 

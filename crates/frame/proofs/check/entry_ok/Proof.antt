@@ -1,8 +1,8 @@
 -- The tests in the order of the definition. Assumes nothing.
 use mathlib.Core.Path.{sym}
-use borrow.Author.Tests.{ne-eqb, le-ltb, lt-leb, eq-eqb, lt-ltb, le-leb}
+use borrow.Author.Tests.{eq-eqb, le-leb, le-ltb, lt-leb, lt-ltb, ne-eqb}
 use Rattle.frame.proofs.Checks.{entry-left}
-use Rattle.frame.specs.Refusals.{entryOk, before}
+use Rattle.frame.specs.Refusals.{entryOk}
 use Rattle.frame.proofs.check.entry_ok.Statement.{statement}
 use Rattle.frame.proofs.check.entry_ok.Tie as tie
 

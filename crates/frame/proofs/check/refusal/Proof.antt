@@ -1,9 +1,9 @@
 -- The four checks in rising order, the first that is met. Assumes nothing.
-use mathlib.Core.Path.{sym, _∙_}
+use mathlib.Core.Path.{_∙_, sym}
 use native.Mathlib.Omega.{arith}
 use borrow.Author.Needs.{needs}
-use Rattle.frame.proofs.Checks.{trailer-passed, refusal-none, refusal-10, refusal-11, refusal-9}
-use Rattle.frame.specs.Refusals.{frameRefusal, before}
+use Rattle.frame.proofs.Checks.{refusal-10, refusal-11, refusal-9, refusal-none, trailer-passed}
+use Rattle.frame.specs.Refusals.{frameRefusal}
 use Rattle.frame.proofs.check.refusal.Statement.{statement}
 use Rattle.frame.proofs.check.refusal.Tie as tie
 

@@ -1,8 +1,8 @@
 -- The tests in the order of the definition. Assumes nothing.
 use mathlib.Core.Path.{sym}
-use borrow.Author.Tests.{lt-ltb, le-ltb, ne-eqb, eq-eqb}
+use borrow.Author.Tests.{eq-eqb, le-ltb, lt-ltb, ne-eqb}
 use Rattle.frame.proofs.Checks.{address-left}
-use Rattle.frame.specs.Refusals.{wrongAddress, before}
+use Rattle.frame.specs.Refusals.{wrongAddress}
 use Rattle.frame.proofs.check.wrong_address.Statement.{statement}
 use Rattle.frame.proofs.check.wrong_address.Tie as tie
 

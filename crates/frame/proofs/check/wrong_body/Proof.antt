@@ -1,7 +1,7 @@
 -- The tests in the order of the definition. Assumes nothing.
 use borrow.Author.Needs.{needs}
-use borrow.Author.Tests.{le-ltb, eq-eqb, lt-ltb, ne-eqb}
-use Rattle.frame.specs.Refusals.{wrongBody, before}
+use borrow.Author.Tests.{eq-eqb, le-ltb, lt-ltb, ne-eqb}
+use Rattle.frame.specs.Refusals.{wrongBody}
 use Rattle.frame.proofs.check.wrong_body.Statement.{statement}
 use Rattle.frame.proofs.check.wrong_body.Tie as tie
 

@@ -1,8 +1,7 @@
 -- The tests in the order of the definition, with the count that the trailer gives. Assumes nothing.
-use mathlib.Core.Path.{sym, _∙_}
+use mathlib.Core.Path.{_∙_, sym}
 use borrow.Author.Needs.{needs}
-use Rattle.frame.proofs.Checks.{content-count, content-cap, content-left, content-body}
-use Rattle.frame.specs.Refusals.{before}
+use Rattle.frame.proofs.Checks.{content-body, content-cap, content-count, content-left}
 use Rattle.frame.proofs.check.wrong_content.Statement.{statement}
 use Rattle.frame.proofs.check.wrong_content.Tie as tie
 

@@ -1,12 +1,11 @@
 -- The loop has passed the entries before entry k, and the walk goes on from place `least`. Assumes nothing.
 use Prim.Native.Nat.{_-_, _≤_}
-use mathlib.Core.Path.{_≡_, _∙_}
+use mathlib.Core.Path.{_∙_, _≡_}
 use native.Mathlib.Nat.{sub-zero}
 use native.Mathlib.Omega.{arith}
 use borrow.Author.Needs.{needs}
-use Rattle.frame.proofs.Checks.{walk-passed, walk-early, walk-wrong, entries-done, entries-rest, walk-end, walk-fails, walk-holds, okFrom}
+use Rattle.frame.proofs.Checks.{entries-done, entries-rest, okFrom, walk-early, walk-end, walk-fails, walk-holds, walk-passed, walk-wrong}
 use Rattle.frame.specs.Entries.{entriesFrom}
-use Rattle.frame.specs.Refusals.{before}
 use Rattle.wire.proofs.Tests.{denied, passed}
 use Rattle.frame.proofs.check.wrong_entries.Statement.{statement}
 use Rattle.frame.proofs.check.wrong_entries.Tie as tie

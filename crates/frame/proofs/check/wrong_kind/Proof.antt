@@ -1,7 +1,6 @@
 -- The tests, byte 7 first. Assumes nothing.
 use mathlib.Core.Path.{sym}
-use Rattle.frame.proofs.Checks.{kind-left, kind-user, kind-reserved}
-use Rattle.frame.specs.Refusals.{before}
+use Rattle.frame.proofs.Checks.{kind-left, kind-reserved, kind-user}
 use Rattle.frame.proofs.check.wrong_kind.Statement.{statement}
 use Rattle.frame.proofs.check.wrong_kind.Tie as tie
 

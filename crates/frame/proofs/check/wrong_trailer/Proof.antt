@@ -1,7 +1,7 @@
 -- The tests in the order of the definition. Assumes nothing.
 use borrow.Author.Needs.{needs}
 use borrow.Author.Tests.{le-ltb, lt-ltb}
-use Rattle.frame.specs.Refusals.{wrongTrailer, before}
+use Rattle.frame.specs.Refusals.{wrongTrailer}
 use Rattle.frame.proofs.check.wrong_trailer.Statement.{statement}
 use Rattle.frame.proofs.check.wrong_trailer.Tie as tie
 

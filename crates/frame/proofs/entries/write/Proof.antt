@@ -6,7 +6,6 @@ use borrow.Author.Needs.{needs}
 use lib.ListN.{drop}
 use Rattle.frame.proofs.Writing.{Writing, rowOf, rows-end, rows-rest, writing-end, writing-part, writing-room, writing-start}
 use Rattle.frame.specs.Entries.{entriesOf, listed}
-use Rattle.frame.specs.Refusals.{before}
 use Rattle.matrix.proofs.Array.{flat-back}
 use Rattle.matrix.specs.Array.{entry}
 use Rattle.frame.proofs.entries.write.Statement.{statement}

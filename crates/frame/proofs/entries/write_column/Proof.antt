@@ -5,7 +5,6 @@ use borrow.Author.Needs.{needs}
 use lib.ListN.{drop, getD}
 use Rattle.frame.proofs.Writing.{Writing, column-rest, rows-end, writing-end, writing-part, writing-room, writing-start}
 use Rattle.frame.specs.Entries.{entriesOf, listed, placed}
-use Rattle.frame.specs.Refusals.{before}
 use Rattle.matrix.proofs.Array.{length-flat}
 use Rattle.matrix.specs.Array.{entry, flat}
 use Rattle.matrix.specs.Matrix.{only}

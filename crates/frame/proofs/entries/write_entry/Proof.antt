@@ -4,7 +4,6 @@ use native.Mathlib.Omega.{arith}
 use borrow.Author.Needs.{needs}
 use lib.ListN.{length-set}
 use Rattle.frame.proofs.EntryLists.{put-entry}
-use Rattle.frame.specs.Refusals.{before}
 use Rattle.frame.proofs.entries.write_entry.Statement.{statement}
 use Rattle.frame.proofs.entries.write_entry.Tie as tie
 

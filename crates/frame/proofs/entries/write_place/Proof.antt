@@ -5,7 +5,6 @@ use mathlib.Core.Path.{_∙_, sym}
 use native.Mathlib.Omega.{arith}
 use borrow.Author.Needs.{needs}
 use Rattle.frame.proofs.EntryLists.{length-placed, placed-at, placed-none, put-none, put-single}
-use Rattle.frame.specs.Refusals.{before}
 use Rattle.matrix.proofs.Matrix.{nonZero-one}
 use Rattle.frame.proofs.entries.write_place.Statement.{statement}
 use Rattle.frame.proofs.entries.write_place.Tie as tie

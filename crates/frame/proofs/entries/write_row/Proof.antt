@@ -6,7 +6,6 @@ use borrow.Author.Needs.{needs}
 use lib.ListN.{drop, getD}
 use Rattle.frame.proofs.Writing.{Writing, row-end, row-rest, rowOf, writing-end, writing-part, writing-room, writing-start}
 use Rattle.frame.specs.Entries.{listed, placed}
-use Rattle.frame.specs.Refusals.{before}
 use Rattle.frame.proofs.entries.write_row.Statement.{statement}
 use Rattle.frame.proofs.entries.write_row.Tie as tie
 

@@ -5,7 +5,6 @@ use borrow.Author.Needs.{needs}
 use Rattle.frame.proofs.EntryLists.{length-entriesOf}
 use Rattle.frame.proofs.Framing.{front-length, header-extra, put-frame, put-front}
 use Rattle.frame.specs.Header.{headerBytes}
-use Rattle.frame.specs.Refusals.{before}
 use Rattle.frame.specs.declared.header.Header.{Header}
 use Rattle.matrix.proofs.Bounds.{count-le, only-count}
 use Rattle.matrix.specs.Array.{entry}

@@ -7,11 +7,9 @@ use lib.ListN.{length}
 use Rattle.frame.proofs.EntryLists.{length-entriesOf}
 use Rattle.frame.proofs.Framing.{front-length, header-user, put-frame, put-front}
 use Rattle.frame.specs.Header.{headerBytes}
-use Rattle.frame.specs.Refusals.{before}
 use Rattle.frame.specs.declared.header.Header.{Header}
 use Rattle.matrix.proofs.Bounds.{count-le}
 use Rattle.matrix.specs.Array.{entry}
-use Rattle.matrix.specs.Matrix.{count}
 use Rattle.matrix.specs.Message.{userMessage}
 use Rattle.wire.specs.Bytes.{put}
 use Rattle.frame.proofs.write.user.Statement.{statement}
