@@ -1,15 +1,15 @@
 -- Counts of the columns of a matrix, the rules of a node's matrix, and what the steps do to both.
-use Prim.Native.Nat.{_<_, _≤_, suc, ℕ}
+use Prim.Native.Nat.{ℕ, suc, _≤_, _<_}
 use mathlib.Core.Bool.{cond}
 use mathlib.Core.Logic.{_≢_}
-use mathlib.Core.Path.{_∙_, _≡_, ap, sym}
-use native.Mathlib.Decide.{decLe, ℕ-discrete}
+use mathlib.Core.Path.{_≡_, sym, ap, _∙_}
+use native.Mathlib.Decide.{ℕ-discrete, decLe}
 use native.Mathlib.Omega.{arith}
 use lib.Dec.{leb, le→leb}
-use Rattle.matrix.proofs.Matrix.{clear-gone, clear-keep, clear-mine, largest-le, largest-lt, merge-max, merge-own, nonZero-le, only-col, only-zero}
-use Rattle.matrix.proofs.Sums.{sum-at, sum-change, sum-ext, sum-le, sum-ones, sum-single}
-use Rattle.matrix.specs.Matrix.{Matrix, clear, columnCount, count, fullest, merge, nonZero, only, sum}
-use Rattle.wire.proofs.Tests.{cond-elim, cond-no, cond-yes, lt→nleb}
+use Rattle.matrix.proofs.Matrix.{largest-lt, largest-le, clear-mine, clear-gone, clear-keep, only-col, only-zero, merge-own, merge-max, nonZero-le}
+use Rattle.matrix.proofs.Sums.{sum-ext, sum-at, sum-ones, sum-le, sum-change, sum-single}
+use Rattle.matrix.specs.Matrix.{Matrix, sum, nonZero, columnCount, count, fullest, clear, only, merge}
+use Rattle.wire.proofs.Tests.{cond-elim, cond-yes, cond-no, lt→nleb}
 
 -- the record rules of node me's matrix: rows and columns from n on, the diagonal and column me are zero
 pub record MatrixRules (n me : ℕ) (m : Matrix) : Type 0 where
@@ -18,6 +18,7 @@ pub record MatrixRules (n me : ℕ) (m : Matrix) : Type 0 where
   pub diagonal : (x : ℕ) → m x x ≡ 0
   pub own : (x : ℕ) → m x me ≡ 0
 
+-- zero does not count
 nonZero-zero : (v : ℕ) → v ≡ 0 → nonZero v ≡ 0
 nonZero-zero v e = rw e
 
@@ -26,6 +27,7 @@ pub column-few : (m : Matrix) (y n : ℕ) → ((x : ℕ) → n ≤ x → m x y �
 unfolding columnCount
 column-few m y n h = sum-le 12 n (λ x. nonZero (m x y)) (λ x _. nonZero-le (m x y)) (λ x l. nonZero-zero (m x y) (h x l))
 
+-- a zero column has no entries
 pub column-zero : (m : Matrix) (y : ℕ) → ((x : ℕ) → m x y ≡ 0) → columnCount m y ≡ 0
 column-zero m y h = omega (arith, column-few m y 0 (λ x _. h x))
 
@@ -45,6 +47,7 @@ pub fullest-le : (m : Matrix) (y : ℕ) → y < 12 → columnCount m y ≤ colum
 unfolding fullest
 fullest-le m y h = largest-le 12 (columnCount m) y h
 
+-- the fullest column is one of the twelve
 pub fullest-lt : (m : Matrix) → fullest m < 12
 unfolding fullest
 fullest-lt m = largest-lt 11 (columnCount m)
@@ -65,6 +68,7 @@ two-below n me l m f h = go (decLe n l)
     go (yes q) = absurd (omega (arith, column-zero m l (λ x. f .columns x l q)))
     go (no q) = omega arith
 
+-- such a column is not the own one, which is zero
 pub two-other : (n me l : ℕ) (m : Matrix) → MatrixRules n me m → 2 ≤ columnCount m l → l ≢ me
 two-other n me l m f h e = omega (arith, column-zero m l (λ x. rw e (f .own x)))
 
@@ -87,12 +91,14 @@ clear-rules n me l m f hi hl ne =
         go (yes e) = rw e (clear-gone me l m l ne)
         go (no e) = clear-keep me l m x x e ∙ f .diagonal x
 
+-- a cleared column has one entry
 pub clear-one : (me l : ℕ) (m : Matrix) → me < 12 → columnCount (clear me l m) l ≡ 1
 unfolding columnCount
 clear-one me l m h =
     let a : nonZero (clear me l m me l) ≡ 1 = ap nonZero (clear-mine me l m) in
     omega (arith, sum-single 12 me (λ x. nonZero (clear me l m x l)) (λ x ne. ap nonZero (clear-gone me l m x ne)), sum-at 12 (λ x. nonZero (clear me l m x l)) me h)
 
+-- the other columns keep theirs
 pub clear-same : (me l : ℕ) (m : Matrix) (y : ℕ) → y ≢ l → columnCount (clear me l m) y ≡ columnCount m y
 unfolding columnCount
 clear-same me l m y ne = sum-ext 12 (λ x. nonZero (clear me l m x y)) (λ x. nonZero (m x y)) (λ x. ap nonZero (clear-keep me l m x y ne))
@@ -127,30 +133,37 @@ merge-rules n me k m e f f′ = record {
 wide : Matrix → ℕ → ℕ
 wide m y = cond (leb 2 (columnCount m y)) 1 0
 
+-- a column counts once at most
 wide-le : (m : Matrix) (y : ℕ) → wide m y ≤ 1
 unfolding wide
 wide-le m y = cond-elim (λ (z : ℕ). z ≤ 1) (leb 2 (columnCount m y)) 1 0 (λ t. omega arith) (λ t. omega arith)
 
+-- a column of two entries or more counts
 wide-yes : (m : Matrix) (y : ℕ) → 2 ≤ columnCount m y → wide m y ≡ 1
 unfolding wide
 wide-yes m y h = cond-yes (leb 2 (columnCount m y)) 1 0 (le→leb 2 (columnCount m y) h)
 
+-- a column of one entry or none does not
 wide-no : (m : Matrix) (y : ℕ) → columnCount m y ≤ 1 → wide m y ≡ 0
 unfolding wide
 wide-no m y h = cond-no (leb 2 (columnCount m y)) 1 0 (lt→nleb 2 (columnCount m y) (omega arith))
 
+-- how many columns have two entries or more
 pub crowded : Matrix → ℕ
 crowded m = sum 12 (wide m)
 
+-- there are twelve columns
 pub crowded-le : (m : Matrix) → crowded m ≤ 12
 unfolding crowded
 crowded-le m = sum-ones 12 (wide m) (λ y _. wide-le m y)
 
+-- clearing such a column takes one off
 pub crowded-down : (me l : ℕ) (m : Matrix) → me < 12 → l < 12 → 2 ≤ columnCount m l → suc (crowded (clear me l m)) ≡ crowded m
 unfolding crowded wide
 crowded-down me l m hi hl h =
     omega (arith, sum-change 12 l (wide (clear me l m)) (wide m) hl (λ y ne. ap (λ (z : ℕ). cond (leb 2 z) 1 0) (clear-same me l m y ne)), wide-yes m l h, wide-no (clear me l m) l (omega (arith, clear-one me l m hi)))
 
+-- with such a column there is one
 pub crowded-some : (l : ℕ) (m : Matrix) → l < 12 → 2 ≤ columnCount m l → 1 ≤ crowded m
 unfolding crowded
 crowded-some l m hl h = omega (arith, sum-at 12 (wide m) l hl, wide-yes m l h)

@@ -1,0 +1,22 @@
+-- The proof of demand 3 on messages.
+pub mod Lists
+pub mod State
+pub mod Issuing
+pub mod History
+pub mod Quiet
+pub mod Delivering
+pub mod Trim
+pub mod Below
+pub mod Good
+pub mod Rounds
+pub mod Grown
+pub mod Sending
+pub mod Offering
+pub mod Searching
+pub mod Learning
+pub mod Bounds
+pub mod Taking
+pub mod Runs
+pub mod Liveness
+pub mod Demand3
+pub mod Examples
