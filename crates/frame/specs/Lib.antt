@@ -2,5 +2,6 @@
 pub mod Header
 pub mod Entries
 pub mod Frame
+pub mod Frames
 pub mod Refusals
 pub mod RoundTrip
