@@ -2,15 +2,10 @@
 use Prim.Native.Nat.{ℕ}
 use mathlib.Core.Bool.{cond}
 use mathlib.Core.List.{List}
-use lib.ListN.{getD}
-use Rattle.matrix.specs.Array.{entry}
+use Rattle.matrix.specs.Array.{entry, vector}
 use Rattle.matrix.specs.Message.{Message}
 use Rattle.protocol.specs.Node.{Node}
-use Rattle.protocol.specs.Offer.{notForMe, claimsTooMuch, deliveredBefore}
-
--- the vector of an array
-abbrev pub vector : List ℕ → ℕ → ℕ
-vector l x = getD l x 0
+use Rattle.protocol.specs.Offer.{claimsTooMuch, deliveredBefore, notForMe}
 
 -- the protocol's node of a record's fields and the messages held
 abbrev pub nodeWith : ℕ → ℕ → ℕ → List ℕ → List ℕ → List Message → Node

@@ -18,3 +18,7 @@ flat m = listFrom 0 144 (λ k. m (k / 12) (k % 12))
 -- the matrix of an array: zero outside its twelve rows and columns
 unfoldable pub entry : List ℕ → Matrix
 entry l x y = cond (ltb x 12 && ltb y 12) (getD l (12 * x + y) 0) 0
+
+-- the vector of an array of twelve counts
+abbrev pub vector : List ℕ → ℕ → ℕ
+vector l x = getD l x 0

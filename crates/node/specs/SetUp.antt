@@ -5,7 +5,7 @@ use lib.ListN.{replicate}
 use Rattle.node.specs.declared.Node.{Node as Record}
 use Rattle.node.specs.declared.SetUp.{SetUp}
 use Rattle.node.specs.declared.SetUpAnswer.the-variants.{Refused, Ready}
-use Rattle.node.specs.Record.{inRange}
+use Rattle.rules.specs.Rules.{inRange}
 
 -- all zero but for me, n and cap
 abbrev pub freshRecord : ℕ → ℕ → ℕ → Record
