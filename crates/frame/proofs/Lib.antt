@@ -10,3 +10,4 @@ pub mod Written
 pub mod Reading
 pub mod RoundTrip
 pub mod Framing
+pub mod Frames

@@ -5,3 +5,4 @@ pub mod Columns
 pub mod Array
 pub mod Stores
 pub mod Bounds
+pub mod Cleared

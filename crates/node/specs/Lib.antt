@@ -3,3 +3,4 @@ pub mod Record
 pub mod SetUp
 pub mod Answers
 pub mod Calls
+pub mod Checks

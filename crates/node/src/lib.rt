@@ -1,4 +1,6 @@
 //! The causal node: its record, set-up, send, offer and deliver. The record goes into each call by value and comes back with its answer.
+mod send;
+mod set_up;
 
 /// The node's record: me, n and cap; the matrix, row by row; the vector of deliveries; and the number of held frames.
 pub struct Node {

@@ -1,0 +1,50 @@
+-- A matrix that is zero outside its twelve rows and columns stays so when a column is cleared, and no entry goes up by more than one. Assumes nothing.
+use Prim.Native.Nat.{_<_, _≤_, suc, ℕ}
+use mathlib.Core.List.{List}
+use mathlib.Core.Path.{_∙_, _≡_}
+use native.Mathlib.Decide.{decLt, ℕ-discrete}
+use native.Mathlib.Omega.{arith}
+use Rattle.matrix.proofs.Array.{entry-out}
+use Rattle.matrix.proofs.Columns.{MatrixRules}
+use Rattle.matrix.proofs.Matrix.{clear-gone, clear-keep, clear-mine, nonZero-le}
+use Rattle.matrix.proofs.Sums.{sum-ones}
+use Rattle.matrix.specs.Array.{entry}
+use Rattle.matrix.specs.Matrix.{Matrix, clear, columnCount, nonZero}
+
+-- zero outside the twelve rows and columns
+abbrev pub Inside : Matrix → Type 0
+Inside m = (x y : ℕ) → (x < 12 → y < 12 → ⊥) → m x y ≡ 0
+
+-- the matrix of an array, and that of a node, are
+pub inside-entry : (l : List ℕ) → Inside (entry l)
+inside-entry l x y h = entry-out l x y h
+
+pub inside-rules : (n me : ℕ) (m : Matrix) → n ≤ 12 → MatrixRules n me m → Inside m
+inside-rules n me m hn f x y h = go (decLt x 12) (decLt y 12)
+  where
+    go : Dec (x < 12) → Dec (y < 12) → m x y ≡ 0
+    go (yes a) (yes b) = absurd (h a b)
+    go (yes a) (no b) = f .columns x y (omega arith)
+    go (no a) d = f .rows x y (omega arith)
+
+-- and stay so when a column is cleared
+pub inside-clear : (i j : ℕ) (m : Matrix) → i < 12 → j < 12 → Inside m → Inside (clear i j m)
+inside-clear i j m hi hj z x y h = go (ℕ-discrete y j)
+  where
+    go : Dec (y ≡ j) → clear i j m x y ≡ 0
+    go (yes e) = rw e (clear-gone i j m x (λ q. h (omega arith) (omega arith)))
+    go (no e) = clear-keep i j m x y e ∙ z x y h
+
+-- no entry goes up by more than one
+pub clear-le : (i j : ℕ) (m : Matrix) (x y : ℕ) → clear i j m x y ≤ suc (m x y)
+clear-le i j m x y = go (ℕ-discrete y j) (ℕ-discrete x i)
+  where
+    go : Dec (y ≡ j) → Dec (x ≡ i) → clear i j m x y ≤ suc (m x y)
+    go (yes e) (yes q) = rw (e, q) (omega (arith, clear-mine i j m))
+    go (yes e) (no q) = rw e (omega (arith, clear-gone i j m x q))
+    go (no e) d = omega (arith, clear-keep i j m x y e)
+
+-- a column has at most twelve entries
+pub column-le : (m : Matrix) (y : ℕ) → columnCount m y ≤ 12
+unfolding columnCount
+column-le m y = sum-ones 12 (λ x. nonZero (m x y)) (λ x _. nonZero-le (m x y))
