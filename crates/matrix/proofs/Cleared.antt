@@ -4,11 +4,11 @@ use mathlib.Core.List.{List}
 use mathlib.Core.Path.{_∙_, _≡_}
 use native.Mathlib.Decide.{decLt, ℕ-discrete}
 use native.Mathlib.Omega.{arith}
-use Rattle.matrix.proofs.Array.{entry-out}
+use Rattle.matrix.proofs.Array.{entry-back, entry-out}
 use Rattle.matrix.proofs.Columns.{MatrixRules}
 use Rattle.matrix.proofs.Matrix.{clear-gone, clear-keep, clear-mine, nonZero-le}
 use Rattle.matrix.proofs.Sums.{sum-ones}
-use Rattle.matrix.specs.Array.{entry}
+use Rattle.matrix.specs.Array.{entry, flat}
 use Rattle.matrix.specs.Matrix.{Matrix, clear, columnCount, nonZero}
 
 -- zero outside the twelve rows and columns
@@ -34,6 +34,10 @@ inside-clear i j m hi hj z x y h = go (ℕ-discrete y j)
     go : Dec (y ≡ j) → clear i j m x y ≡ 0
     go (yes e) = rw e (clear-gone i j m x (λ q. h (omega arith) (omega arith)))
     go (no e) = clear-keep i j m x y e ∙ z x y h
+
+-- so the array of a cleared matrix has that matrix
+pub clear-back : (i j : ℕ) (l : List ℕ) → i < 12 → j < 12 → entry (flat (clear i j (entry l))) ≡ clear i j (entry l)
+clear-back i j l hi hj = entry-back (clear i j (entry l)) (inside-clear i j (entry l) hi hj (inside-entry l))
 
 -- no entry goes up by more than one
 pub clear-le : (i j : ℕ) (m : Matrix) (x y : ℕ) → clear i j m x y ≤ suc (m x y)

@@ -15,8 +15,9 @@ use Rattle.matrix.specs.Array.{entry}
 use Rattle.matrix.specs.Matrix.{Matrix, count}
 use Rattle.protocol.proofs.Below.{each-all}
 use Rattle.protocol.specs.Node.{Node, atLimit, eachBelow, someBelow}
+use Rattle.rules.proofs.Passes.{some-none}
 use Rattle.rules.specs.Rules.{brokenRules, inRange, withinLimit, zeroColumn, zeroDiagonal, zeroFrom}
-use Rattle.wire.proofs.Tests.{and-T, is-true, of-true, or-T}
+use Rattle.wire.proofs.Tests.{and-T, is-true, neqb→ne, of-true, or-T, or-not}
 use Rattle.wire.specs.Limits.{maxCount}
 
 pub record Ranged (me n cap : ℕ) : Type 0 where
@@ -126,12 +127,12 @@ module _ (me n cap : ℕ) (l : List ℕ) (v : ℕ → ℕ) (held : ℕ) where
       record {
         range = ranged me n cap (is-true (inRange me n cap) (p .0));
         rules =
-        record {
-          rows = λ x y h. out x y (λ a b. omega arith);
-          columns = λ x y h. out x y (λ a b. omega arith);
-          diagonal = λ x. everywhere l (λ (u : ℕ). u ≡ 0) x x refl (λ a b. eqb→eq (m x x) 0 (each-all 12 (λ x. eqb (m x x) 0) (p .1) x a));
-          own = λ x. everywhere l (λ (u : ℕ). u ≡ 0) x me refl (λ a b. eqb→eq (m x me) 0 (each-all 12 (λ x. eqb (m x me) 0) (p .2) x a));
-        };
+            record {
+              rows = λ x y h. out x y (λ a b. omega arith);
+              columns = λ x y h. out x y (λ a b. omega arith);
+              diagonal = λ x. everywhere l (λ (u : ℕ). u ≡ 0) x x refl (λ a b. eqb→eq (m x x) 0 (each-all 12 (λ x. eqb (m x x) 0) (p .1) x a));
+              own = λ x. everywhere l (λ (u : ℕ). u ≡ 0) x me refl (λ a b. eqb→eq (m x me) 0 (each-all 12 (λ x. eqb (m x me) 0) (p .2) x a));
+            };
         few = leb→le (count m) cap (p .3);
         own = eqb→eq (v me) 0 (p .4);
         limit = λ x y. everywhere l (λ (u : ℕ). u ≤ maxCount) x y (omega arith) (λ a b. leb→le (m x y) maxCount (each-all 12 (λ y. leb (m x y) maxCount) (each-all 12 (λ x. eachBelow 12 (λ y. leb (m x y) maxCount)) (w .0) x a) y b));
@@ -139,3 +140,18 @@ module _ (me n cap : ℕ) (l : List ℕ) (v : ℕ → ℕ) (held : ℕ) where
         vectorZero = λ x h k. ⊎-elim (λ t. absurd (omega (arith, ltb→lt x n t))) (λ t. eqb→eq (v x) 0 t) (or-T (ltb x n) (eqb (v x) 0) (each-all 12 (λ x. ltb x n || eqb (v x) 0) (z .1) x h));
         room = leb→le held 16 (p .6);
       }
+
+-- a node none of whose counts is at its limit
+pub limit-row : (d : Node) → T (not (atLimit d)) → ((x y : ℕ) → d .matrix x y ≤ maxCount) → (y : ℕ) → y < 12 → d .matrix (d .me) y < maxCount
+unfolding atLimit
+limit-row d t h y l =
+    let p = or-not (someBelow 12 (λ y. eqb (d .matrix (d .me) y) maxCount)) (someBelow 12 (λ x. eqb (d .deliv x) maxCount)) t in
+    let q = neqb→ne (d .matrix (d .me) y) maxCount (some-none 12 (λ y. eqb (d .matrix (d .me) y) maxCount) (p .0) y l) in
+    let r = h (d .me) y in
+    omega arith
+
+pub limit-vector : (d : Node) → T (not (atLimit d)) → (x : ℕ) → x < 12 → d .deliv x ≡ maxCount → ⊥
+unfolding atLimit
+limit-vector d t x l =
+    let p = or-not (someBelow 12 (λ y. eqb (d .matrix (d .me) y) maxCount)) (someBelow 12 (λ x. eqb (d .deliv x) maxCount)) t in
+    neqb→ne (d .deliv x) maxCount (some-none 12 (λ x. eqb (d .deliv x) maxCount) (p .1) x l)

@@ -1,9 +1,10 @@
 -- Laws of the passes: one turn of a loop that tests each number below a bound, and the passes over rows as passes over the array. Assumes nothing.
 -- two tests that follow from each other are equal
 use Prim.Native.Nat.{_%_, _*_, _+_, _/_, _<_, _≤_, suc, zero, ℕ}
-use mathlib.Core.Bool.{Bool, _&&_, _||_, cond, false, true}
+use mathlib.Core.Bool.{Bool, _&&_, _||_, cond, false, not, true}
 use mathlib.Core.List.{List}
 use mathlib.Core.Path.{_∙_, _≡_, ap, ap₂, refl, sym}
+use native.Mathlib.Decide.{ℕ-discrete}
 use native.Mathlib.Numerals.{add-one}
 use native.Mathlib.Omega.{arith}
 use borrow.Author.Tests.{le-ltb}
@@ -13,7 +14,7 @@ use Rattle.matrix.proofs.Array.{entry-place, place-column, place-row}
 use Rattle.matrix.specs.Array.{entry}
 use Rattle.protocol.proofs.Below.{all-each, each-all}
 use Rattle.protocol.specs.Node.{eachBelow, someBelow}
-use Rattle.wire.proofs.Tests.{cond-elim}
+use Rattle.wire.proofs.Tests.{cond-elim, or-not}
 
 pub same-test : (a b : Bool) → (T a → T b) → (T b → T a) → a ≡ b
 same-test true true f g = refl
@@ -60,3 +61,12 @@ row-start n x f = go (ltb x n)
 
 pub start-le : (n x : ℕ) → n ≤ 12 → cond (ltb x n) n 0 ≤ 12
 start-le n x h = cond-elim (λ (z : ℕ). z ≤ 12) (ltb x n) n 0 (λ _. h) (λ _. omega arith)
+
+-- where it is not the case that some pass the test, none does
+pub some-none : (k : ℕ) (p : ℕ → Bool) → T (not (someBelow k p)) → (x : ℕ) → x < k → T (not (p x))
+some-none zero p t x h = absurd (omega arith)
+some-none (suc k) p t x h = let r = or-not (someBelow k p) (p k) t in go (r .1) (some-none k p (r .0) x) (ℕ-discrete x k)
+  where
+    go : T (not (p k)) → (x < k → T (not (p x))) → Dec (x ≡ k) → T (not (p x))
+    go last ih (yes e) = rw e last
+    go last ih (no e) = ih (omega arith)

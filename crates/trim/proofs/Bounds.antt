@@ -15,7 +15,7 @@ use Rattle.matrix.specs.Message.{extraMessage}
 use Rattle.protocol.specs.Trim.{Trimmed, issuing, trimFor, untouched}
 use Rattle.wire.proofs.Tests.{cond-elim}
 
--- at most one message in a round
+-- at most one message is issued in a round
 pub trim-few : (k me n cap : ℕ) (m : Matrix) → length (trimFor k me n cap m .extras) ≤ k
 unfolding trimFor
 trim-few zero me n cap m = omega arith
@@ -24,7 +24,7 @@ trim-few (suc k) me n cap m =
     (λ _. omega arith)
     (λ _. omega (arith, trim-few k me n cap (clear me (fullest m) m)))
 
--- of at most 12 + 6 * 12 bytes
+-- a round writes at most 12 + 6 * 12 bytes
 pub trim-bytes : (k me n cap : ℕ) (m : Matrix) → length (framesOf (trimFor k me n cap m .extras)) ≤ 84 * k
 unfolding trimFor
 trim-bytes zero me n cap m = rw frames-nil (omega arith)
@@ -58,6 +58,6 @@ trim-inside (suc k) me n cap m hm z =
     (λ _. z)
     (λ _. trim-inside k me n cap (clear me (fullest m) m) hm (inside-clear me (fullest m) m hm (fullest-lt m) z))
 
--- so the array that `trim` leaves is that of the trimmed matrix, and no more is lost in it
+-- so the array that `trim` leaves has the trimmed matrix
 pub trim-back : (me n cap : ℕ) (m : Matrix) → me < 12 → Inside m → entry (flat (trimFor 12 me n cap m .matrix)) ≡ trimFor 12 me n cap m .matrix
 trim-back me n cap m hm z = entry-back (trimFor 12 me n cap m .matrix) (trim-inside 12 me n cap m hm z)

@@ -9,16 +9,16 @@ use lib.ListN.{length}
 use Rattle.frame.proofs.Frames.{extra-le, frames-nil, length-frames, put-frames}
 use Rattle.frame.specs.Frame.{encode}
 use Rattle.frame.specs.Frames.{framesOf}
-use Rattle.matrix.proofs.Array.{entry-back, flat-back, length-flat}
-use Rattle.matrix.proofs.Cleared.{clear-le, inside-clear, inside-entry}
+use Rattle.matrix.proofs.Array.{flat-back, length-flat}
+use Rattle.matrix.proofs.Cleared.{clear-back, clear-le}
 use Rattle.matrix.proofs.Columns.{fullest-lt}
 use Rattle.matrix.specs.Array.{entry, flat}
 use Rattle.matrix.specs.Matrix.{Matrix, clear, count, fullest}
 use Rattle.matrix.specs.Message.{Message, extraMessage}
 use Rattle.protocol.specs.Trim.{Trimmed, issuing, trimFor, untouched}
-use Rattle.wire.specs.Bytes.{put}
 use Rattle.wire.proofs.Bytes.{length-put, put-nil}
 use Rattle.wire.proofs.Tests.{cond-no, cond-yes, lt→nleb}
+use Rattle.wire.specs.Bytes.{put}
 use Rattle.wire.specs.Limits.{maxCount}
 
 -- of the trim `whole`, whose frames go over o₀ from `at` on, i frames stand in o before pos, and `left` is still to be done
@@ -63,7 +63,7 @@ module _ (me n cap : ℕ) (m : Matrix) where
   trim-more k h =
       cond-no (leb (count m) cap) (untouched m) (issuing (extraMessage me (fullest m) n cap m) (trimFor k me n cap (clear me (fullest m) m))) (lt→nleb (count m) cap h)
 
--- after i rounds: the array l, the output o, and the place pos behind the frames in it
+-- after i rounds: the array l, the output o and the place pos behind the frames in it, where they were l₀, o₀ and `at`
 pub record Trimming (me n cap at : ℕ) (l₀ o₀ l o : List ℕ) (pos i : ℕ) : Type 0 where
   pub rounds : i ≤ 12
   pub size : length l ≡ 144
@@ -71,13 +71,14 @@ pub record Trimming (me n cap at : ℕ) (l₀ o₀ l o : List ℕ) (pos i : ℕ)
   pub small : (x y : ℕ) → entry l x y ≤ maxCount + i
   pub issued : Issuing o₀ at (trimFor 12 me n cap (entry l₀)) o pos i (trimFor (12 - i) me n cap (entry l))
 
--- what `trim` promises of them
+-- what `trim` promises of them at its end
 abbrev pub Ended : (me n cap at : ℕ) (l₀ o₀ l o : List ℕ) (pos i : ℕ) → Type 0
 Ended me n cap at l₀ o₀ l o pos i =
     (l ≡ flat (trimFor 12 me n cap (entry l₀) .matrix)) × (o ≡ put o₀ at (framesOf (trimFor 12 me n cap (entry l₀) .extras)))
     × (pos ≡ at + length (framesOf (trimFor 12 me n cap (entry l₀) .extras))) × (i ≡ length (trimFor 12 me n cap (entry l₀) .extras))
 
 module _ (me n cap at : ℕ) (l₀ o₀ : List ℕ) where
+  -- before the first round all is left
   pub trimming-start : length l₀ ≡ 144 → ((x y : ℕ) → entry l₀ x y ≤ maxCount) → Trimming me n cap at l₀ o₀ l₀ o₀ at 0
   trimming-start e s =
       record { rounds = omega arith; size = e; room = omega arith; small = λ x y. omega (arith, s x y); issued = record { same = refl; matrix = refl; extras = zero-add _; place = refl; bytes = refl } }
@@ -91,9 +92,9 @@ module _ (me n cap at : ℕ) (l₀ o₀ : List ℕ) where
         let m : Matrix = entry l in
         let j : ℕ = fullest m in
         let x : Message = extraMessage me j n cap m in
-        let turns : 12 - i ≡ suc (12 - (i + 1)) = omega arith in
-        let left : trimFor (12 - i) me n cap m ≡ issuing x (trimFor (12 - (i + 1)) me n cap (clear me j m)) = rw turns (trim-more me n cap m (12 - (i + 1)) more) in
-        let back : entry l′ ≡ clear me j m = ap entry el ∙ entry-back (clear me j m) (inside-clear me j m hm (fullest-lt m) (inside-entry l)) in
+        let rounds : 12 - i ≡ suc (12 - (i + 1)) = omega arith in
+        let left : trimFor (12 - i) me n cap m ≡ issuing x (trimFor (12 - (i + 1)) me n cap (clear me j m)) = rw rounds (trim-more me n cap m (12 - (i + 1)) more) in
+        let back : entry l′ ≡ clear me j m = ap entry el ∙ clear-back me j l hm (fullest-lt m) in
         record {
           rounds = omega arith;
           size = ap length el ∙ length-flat (clear me j m);
@@ -102,15 +103,17 @@ module _ (me n cap at : ℕ) (l₀ o₀ : List ℕ) where
           issued = rw back (issuing-one o₀ at (trimFor 12 me n cap (entry l₀)) o pos i (trimFor (12 - i) me n cap m) x (trimFor (12 - (i + 1)) me n cap (clear me j m)) o′ pos′ (K .issued) left eo ep);
         }
 
-    -- no round is left
+    -- nothing is left but the matrix as it stands
     ended : trimFor (12 - i) me n cap (entry l) ≡ untouched (entry l) → Ended me n cap at l₀ o₀ l o pos i
     ended e =
         let w = issuing-end o₀ at (trimFor 12 me n cap (entry l₀)) o pos i (trimFor (12 - i) me n cap (entry l)) (entry l) (K .issued) e in
         (sym (flat-back l (K .size)) ∙ ap flat (w .0), w .1, w .2, w .3)
 
+    -- at most cap entries are non-zero
     pub trimming-done : count (entry l) ≤ cap → Ended me n cap at l₀ o₀ l o pos i
     trimming-done h = ended (trim-none me n cap (entry l) (12 - i) h)
 
+    -- twelve rounds were made
     pub trimming-end : 12 ≤ i → Ended me n cap at l₀ o₀ l o pos i
     unfolding trimFor
     trimming-end h = let z : 12 - i ≡ 0 = omega arith in ended (rw z)

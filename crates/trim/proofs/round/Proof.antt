@@ -1,4 +1,5 @@
 -- The frame carries the fullest column as it stands, and then that column is cleared. Assumes nothing.
+use Prim.Native.Nat.{_<_}
 use mathlib.Core.Path.{_≡_}
 use native.Mathlib.Omega.{arith}
 use borrow.Author.Needs.{needs}
@@ -27,8 +28,8 @@ clear-column-requires : tie.Need-clear-column-requires
 clear-column-requires c κs =
     let f = c .before .before .before .before .before .before in
     let s = f .before .before .before in
-    let a = s .args in
-    (s .pre .0, s .pre .1, omega (arith, f .fullest .ensures, fullest-lt (entry (a .m .now))), s .pre .3 (a .me) (f .fullest .result))
+    let l : f .fullest .result < 12 = omega (arith, f .fullest .ensures, fullest-lt (entry (s .args .m .now))) in
+    (s .pre .0, omega (arith, s .pre .1), omega (arith, s .pre .1), s .pre .3 _ _)
 
 same-length : tie.Need-same-length
 same-length c = search needs

@@ -1,46 +1,74 @@
+-- The checks in rising order. Assumes nothing.
+use mathlib.Core.Path.{_∙_, refl, sym}
+use native.Mathlib.Omega.{arith}
 use borrow.Author.Needs.{needs}
+use Rattle.node.proofs.Sending.{send-0, send-2, send-3, send-5, send-6, send-7, to-far, to-me, to-other}
+use Rattle.node.specs.Record.{brokenRecord}
+use Rattle.rules.proofs.Facts.{unbroken}
 use Rattle.node.proofs.send.refusal.Statement.{statement}
 use Rattle.node.proofs.send.refusal.Tie as tie
-use Rattle.node.proofs.send.refusal.Reads as reads
-use Rattle.node.proofs.send.refusal.Lts as lts
-use Rattle.rules.proofs.at_limit.Reads as at-limit-reads
-use Rattle.rules.proofs.broken.Reads as broken-reads
 
--- src/send.rt:29:8
 broken-requires : tie.Need-broken-requires
 broken-requires c κs = search needs
 
--- src/send.rt:30:9
 returns : tie.Need-returns
-returns c = ?
+unfolding brokenRecord
+returns c = sym (send-2 _ _ _ _ (sym (c .before .broken .ensures) ∙ c .if1 .taken))
 
--- src/send.rt:33:9
 returns-2 : tie.Need-returns-2
-returns-2 c = ?
+unfolding brokenRecord
+returns-2 c =
+    let b = c .before in
+    sym (send-3 _ _ _ _ (sym (b .before .broken .ensures) ∙ b .if1 .left) (c .if2 .taken))
 
--- src/send.rt:35:8
 at-limit-requires : tie.Need-at-limit-requires
-at-limit-requires c κs = ?
+at-limit-requires c κs =
+    let b = c .before in
+    let s = b .before .before in
+    let u = unbroken _ _ _ (s .args .m .now) _ _ (sym (b .before .broken .ensures) ∙ b .if1 .left) in
+    (s .pre .0, s .pre .1, omega (arith, u .range .below, u .range .atMost12))
 
--- src/send.rt:36:9
 returns-3 : tie.Need-returns-3
-returns-3 c = ?
+unfolding brokenRecord
+returns-3 c =
+    let e = c .before .before in
+    let b = e .before in
+    sym (send-5 _ _ _ _ (sym (b .before .broken .ensures) ∙ b .if1 .left) (e .if2 .left) (sym (c .before .at-limit .ensures _ refl refl refl) ∙ c .if3 .taken))
 
--- src/send.rt:39:9
 returns-4 : tie.Need-returns-4
-returns-4 c = ?
+unfolding brokenRecord
+returns-4 c =
+    let l = c .before in
+    let e = l .before .before in
+    let b = e .before in
+    sym (send-6 _ _ _ _ (sym (b .before .broken .ensures) ∙ b .if1 .left) (e .if2 .left) (sym (l .before .at-limit .ensures _ refl refl refl) ∙ l .if3 .left) (to-me _ _ _ (c .if4 .taken)))
 
--- src/send.rt:42:9
 returns-5 : tie.Need-returns-5
-returns-5 c = ?
+unfolding brokenRecord
+returns-5 c =
+    let f = c .before in
+    let l = f .before in
+    let e = l .before .before in
+    let b = e .before in
+    sym (send-6 _ _ _ _ (sym (b .before .broken .ensures) ∙ b .if1 .left) (e .if2 .left) (sym (l .before .at-limit .ensures _ refl refl refl) ∙ l .if3 .left) (to-far _ _ _ (c .if5 .taken)))
 
--- src/send.rt:45:9
 returns-6 : tie.Need-returns-6
-returns-6 c = ?
+unfolding brokenRecord
+returns-6 c =
+    let f = c .before .before in
+    let l = f .before in
+    let e = l .before .before in
+    let b = e .before in
+    sym (send-7 _ _ _ _ (sym (b .before .broken .ensures) ∙ b .if1 .left) (e .if2 .left) (sym (l .before .at-limit .ensures _ refl refl refl) ∙ l .if3 .left) (to-other _ _ _ (f .if4 .left) (c .before .if5 .left)) (c .if6 .taken))
 
--- src/send.rt:15:1
 returns-7 : tie.Need-returns-7
-returns-7 c = ?
+unfolding brokenRecord
+returns-7 c =
+    let f = c .before .before in
+    let l = f .before in
+    let e = l .before .before in
+    let b = e .before in
+    sym (send-0 _ _ _ _ (sym (b .before .broken .ensures) ∙ b .if1 .left) (e .if2 .left) (sym (l .before .at-limit .ensures _ refl refl refl) ∙ l .if3 .left) (to-other _ _ _ (f .if4 .left) (c .before .if5 .left)) (c .if6 .left))
 
 pub refusal-spec : {M : Type 1} → statement M
 refusal-spec =

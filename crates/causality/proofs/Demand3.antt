@@ -1,0 +1,72 @@
+-- Demand 3 on records and bytes holds: a list of calls matches a list of steps on messages, for which it is proved. Assumes nothing.
+use Prim.Native.Nat.{_<_, ℕ}
+use mathlib.Core.List.{List, map}
+use native.Mathlib.Omega.{arith}
+use lib.ListN.{length, length-map}
+use Rattle.causality.proofs.Matches.{Matches}
+use Rattle.causality.proofs.Order.{carried, causal, distinct, kept, once}
+use Rattle.causality.proofs.Progress.{accepts, delivers-new, exists, held-agrees}
+use Rattle.causality.proofs.Runs.{run-matches, start-matches}
+use Rattle.causality.proofs.Steps.{forget}
+use Rattle.causality.specs.Demand3.{BodiesOfBytes, Demand3, Demand3For, Earliest, Issue, Step, World, run, start}
+use Rattle.causality.specs.EachDestination.{EachDestination, EarliestThere, Progress}
+use Rattle.matrix.specs.Message.{InRange}
+use Rattle.protocol.proofs.Good.{Good}
+use Rattle.protocol.proofs.Runs.{run-good, run-length, start-good}
+use Rattle.protocol.specs.World as messages
+use Rattle.protocol.proofs.Demand3 as proved
+use Rattle.protocol.specs.Demand3 as stated
+
+-- a list of steps
+module _ (n cap : ℕ) (inside : InRange n cap) (steps : List Step) (bytes : BodiesOfBytes steps) (short : length steps < 1000000000) where
+  -- its world, its list of steps on messages, and the world of that
+  abbrev b : World
+  b = run n (start n cap) steps
+
+  abbrev l : List messages.Step
+  l = map forget steps
+
+  abbrev w : messages.World
+  w = messages.run n (messages.start n (λ i. cap)) l
+
+  good-start : Good n (λ i. cap) (messages.start n (λ i. cap))
+  good-start = start-good n (λ i. cap) (λ k h. inside)
+
+  g : Good n (λ i. cap) w
+  g = run-good n (λ i. cap) (messages.start n (λ i. cap)) l good-start
+
+  few : length (w .history) < 1000000000
+  few = omega (arith, run-length n (messages.start n (λ i. cap)) l, length-map steps forget)
+
+  m : Matches n w b
+  m = run-matches n cap steps bytes (messages.start n (λ i. cap)) (start n cap) good-start (omega arith) (start-matches n cap inside)
+
+  t : stated.Demand3For n (λ i. cap) w
+  t = proved.demand3 n cap inside l (omega (arith, length-map steps forget))
+
+  progress : Progress b
+  progress = record { accepts = accepts n cap w b g few m t; delivers = delivers-new n cap w b g few m t }
+
+  -- the earliest of all is the earliest to its destination
+  first-there : (p : ℕ) (x : Issue) → Earliest b p x → EarliestThere b p x
+  first-there p x e = record { at = e .at; undelivered = e .undelivered; earlier = λ q h l a _. e .earlier q h l a }
+
+  world-demand3 : Demand3For n cap b
+  world-demand3 = record {
+    causal = causal n cap w b g few m t;
+    once = once n cap w b g few m t;
+    distinct = distinct n cap w b g few m t;
+    kept = kept n cap w b g few m t;
+    carried = carried n cap w b g few m t;
+    exists = exists n cap w b g few m t;
+    accepts = λ p x e. progress .accepts p x (first-there p x e);
+    delivers = λ p x e. progress .delivers p x (first-there p x e);
+    agrees = held-agrees n cap w b g few m t;
+  }
+
+pub demand3 : Demand3
+demand3 n cap inside steps bytes short = world-demand3 n cap inside steps bytes short
+
+-- its last part, for each destination
+pub each-destination : EachDestination
+each-destination n cap inside steps bytes short = progress n cap inside steps bytes short

@@ -1,0 +1,244 @@
+-- The definitions, run on bytes: the mission's story with what the theorem says of it, an extra frame issued and delivered, two messages in opposite orders, and refusals.
+use Prim.Native.Nat.{_<_, ℕ}
+use mathlib.Core.Bool.{Bool, false, true}
+use mathlib.Core.List.{List, [], _∷_, map}
+use mathlib.Core.Path.{_≡_, refl}
+use native.Mathlib.Omega.{arith}
+use lib.ListN.{drop, replicate}
+use Rattle.arrival.specs.View.{arrivalRefusal}
+use Rattle.causality.proofs.Demand3.{demand3}
+use Rattle.causality.specs.Demand3.{Answer, BodiesOfBytes, DeliveredAt, Demand3For, Event, HappenedBefore, Issue, Step, World, chain, cutFor, delivered, delivers, issuedBy, message, offered, offers, run, sameNode, sends, sent, start, step}
+use Rattle.frame.specs.Entries.{entriesBytes, entriesFrom, entriesOf, entryAt, entryBytes, listed, matrixOf, placed}
+use Rattle.frame.specs.Frame.{decode, encode, front, headerOf}
+use Rattle.frame.specs.Frames.{framesOf}
+use Rattle.frame.specs.Header.{header, headerBytes, ownLength}
+use Rattle.frame.specs.Refusals.{before, eachOk, entryOk, frameRefusal, rising, risingAfter, wrongAddress, wrongBody, wrongContent, wrongEntries, wrongKind, wrongTrailer}
+use Rattle.holdback.specs.Check.{heldRefused, sameBytes, someAlike, someRefused, wrongQueue}
+use Rattle.holdback.specs.Slots.{frameIn, heldFrames, padded, slots, without, zeros}
+use Rattle.matrix.specs.Array.{entry, flat}
+use Rattle.matrix.specs.Matrix.{clear, columnCount, count, fullest, merge, only}
+use Rattle.matrix.specs.Message.{InRange, number}
+use Rattle.node.specs.Calls.{deliverCall, offerCall, sendCall}
+use Rattle.node.specs.Record.{brokenRecord, inRange, withinLimit, zeroColumn, zeroDiagonal, zeroFrom}
+use Rattle.node.specs.SetUp.{setUp}
+use Rattle.protocol.specs.Node.{atLimit}
+use Rattle.protocol.specs.Offer.{deliverable}
+use Rattle.protocol.specs.Trim.{trimFor}
+use Rattle.wire.proofs.Bytes.{small-bytes}
+use Rattle.wire.specs.Bytes.{le16, le32, u16At, u32At}
+use Rattle.wire.specs.Trailer.{checksum, countBack, hasTrailer, sealed, sumBack, total, trailer}
+use Rattle.node.specs.declared.SendAnswer.the-variants as send
+use Rattle.node.specs.declared.OfferAnswer.the-variants as offer
+use Rattle.node.specs.declared.DeliverAnswer.the-variants as deliver
+use Rattle.protocol.specs.Send as protocolSend
+use Rattle.protocol.specs.Offer as protocolOffer
+use Rattle.protocol.specs.Deliver as protocolDeliver
+use Rattle.wire.specs.Bytes as bytes
+use Rattle.wire.specs.Trailer as trailers
+
+-- lent outputs
+abbrev out : List ℕ
+out = replicate 2048 0
+
+abbrev text : List ℕ
+text = replicate 64 0
+
+-- the world of a list of three nodes with cap 3, its answers, and the frames that it issued
+abbrev pub after : List Step → World
+after l = run 3 (start 3 3) l
+
+abbrev answers : List Step → List Answer
+answers l = map (λ (e : Event). e .answer) (after l .history)
+
+abbrev frames : List Step → List (List ℕ)
+frames l = map (λ (g : Issue). g .frame) (after l .log)
+
+-- a send's answer, an offer's, and a deliver's
+abbrev wrote : ℕ → Answer
+wrote bytes = sent (send.Sent bytes 0)
+
+abbrev holds : ℕ → Bool → Answer
+holds count ready = offered (offer.Held count ready)
+
+abbrev waits : ℕ → Answer
+waits tried = delivered (deliver.Nothing tried)
+
+abbrev gets : (kind from number tried body bytes extras : ℕ) → Answer
+gets kind from number tried body bytes extras =
+    delivered (deliver.Frame (record { kind = kind; from = from; number = number; tried = tried; body = body; bytes = bytes; extras = extras }))
+
+-- ---- the story: node 0, the cover, tells the archive, 2, "closing" and the camera, 1, "closed"; the camera reports to the archive
+abbrev closing : List ℕ
+closing = 99 ∷ 108 ∷ 111 ∷ 115 ∷ 105 ∷ 110 ∷ 103 ∷ []
+
+abbrev closed : List ℕ
+closed = 99 ∷ 108 ∷ 111 ∷ 115 ∷ 101 ∷ 100 ∷ []
+
+abbrev report : List ℕ
+report = 114 ∷ 101 ∷ 112 ∷ 111 ∷ 114 ∷ 116 ∷ []
+
+unfoldable pub story : List Step
+story =
+    sends 0 2 closing out
+    ∷ sends 0 1 closed out
+    ∷ offers 1 1
+    ∷ delivers 1 out text
+    ∷ sends 1 2 report out
+    ∷ offers 2 2
+    ∷ delivers 2 out text
+    ∷ offers 2 0
+    ∷ delivers 2 out text
+    ∷ delivers 2 out text
+    ∷ []
+
+-- its frames: "closed" and the report carry that "closing" was sent to the archive
+abbrev closingFrame : List ℕ
+closingFrame = 1 ∷ 0 ∷ 2 ∷ 0 ∷ 7 ∷ 3 ∷ 3 ∷ 0 ∷ 99 ∷ 108 ∷ 111 ∷ 115 ∷ 105 ∷ 110 ∷ 103 ∷ 15 ∷ 0 ∷ 14 ∷ 3 ∷ []
+
+abbrev closedFrame : List ℕ
+closedFrame = 1 ∷ 0 ∷ 1 ∷ 1 ∷ 6 ∷ 3 ∷ 3 ∷ 0 ∷ 0 ∷ 2 ∷ 1 ∷ 0 ∷ 0 ∷ 0 ∷ 99 ∷ 108 ∷ 111 ∷ 115 ∷ 101 ∷ 100 ∷ 20 ∷ 0 ∷ 160 ∷ 2 ∷ []
+
+abbrev reportFrame : List ℕ
+reportFrame = 1 ∷ 1 ∷ 2 ∷ 1 ∷ 6 ∷ 3 ∷ 3 ∷ 0 ∷ 0 ∷ 2 ∷ 1 ∷ 0 ∷ 0 ∷ 0 ∷ 114 ∷ 101 ∷ 112 ∷ 111 ∷ 114 ∷ 116 ∷ 20 ∷ 0 ∷ 196 ∷ 2 ∷ []
+
+abbrev storyFrames : List Issue
+storyFrames = issuedBy 0 closingFrame ∷ issuedBy 1 closedFrame ∷ issuedBy 4 reportFrame ∷ []
+
+pub story-frames : after story .log ≡ storyFrames
+unfolding story step setUp inRange cutFor sendCall offerCall deliverCall brokenRecord zeroDiagonal zeroColumn withinLimit zeroFrom count columnCount flat entry atLimit protocolSend.send protocolOffer.offer protocolDeliver.deliver deliverable trimFor fullest clear only merge framesOf encode sealed front headerBytes headerOf header ownLength entriesBytes entryBytes entriesOf listed placed entriesFrom entryAt matrixOf le16 le32 u16At u32At bytes.put trailer trailers.counted checksum total decode wrongQueue sameBytes heldRefused someRefused someAlike arrivalRefusal frameRefusal wrongTrailer hasTrailer countBack sumBack wrongKind wrongAddress wrongContent wrongBody wrongEntries eachOk entryOk before rising risingAfter zeros padded slots frameIn heldFrames without
+story-frames = refl
+
+-- a step that was made at node i
+abbrev made : ℕ → Step → Answer → Event
+made i s a = record { node = i; step = s; answer = a }
+
+-- its steps: the report is offered first, waits, and is delivered after "closing"
+abbrev storyEvents : List Event
+storyEvents =
+    made 0 (sends 0 2 closing out) (wrote 19)
+    ∷ made 0 (sends 0 1 closed out) (wrote 24)
+    ∷ made 1 (offers 1 1) (holds 1 true)
+    ∷ made 1 (delivers 1 out text) (gets 1 0 1 1 6 0 0)
+    ∷ made 1 (sends 1 2 report out) (wrote 24)
+    ∷ made 2 (offers 2 2) (holds 1 false)
+    ∷ made 2 (delivers 2 out text) (waits 1)
+    ∷ made 2 (offers 2 0) (holds 2 true)
+    ∷ made 2 (delivers 2 out text) (gets 1 0 1 2 7 0 0)
+    ∷ made 2 (delivers 2 out text) (gets 1 1 1 1 6 0 0)
+    ∷ []
+
+pub story-events : after story .history ≡ storyEvents
+unfolding story step setUp inRange cutFor sendCall offerCall deliverCall brokenRecord zeroDiagonal zeroColumn withinLimit zeroFrom count columnCount flat entry atLimit protocolSend.send protocolOffer.offer protocolDeliver.deliver deliverable trimFor fullest clear only merge framesOf encode sealed front headerBytes headerOf header ownLength entriesBytes entryBytes entriesOf listed placed entriesFrom entryAt matrixOf le16 le32 u16At u32At bytes.put trailer trailers.counted checksum total decode wrongQueue sameBytes heldRefused someRefused someAlike arrivalRefusal frameRefusal wrongTrailer hasTrailer countBack sumBack wrongKind wrongAddress wrongContent wrongBody wrongEntries eachOk entryOk before rising risingAfter zeros padded slots frameIn heldFrames without
+story-events = refl
+
+-- the send of "closing" happened before the send of the report, by way of "closed"
+before-report : HappenedBefore storyFrames storyEvents 0 4
+unfolding header decode entriesFrom entryAt u32At matrixOf
+before-report =
+    chain 0 1 4 (sameNode 0 1 (made 0 (sends 0 2 closing out) (wrote 19)) (made 0 (sends 0 1 closed out) (wrote 24)) (omega arith) refl refl refl refl refl)
+    (chain 1 3 4
+    (message 1 3 1 (issuedBy 1 closedFrame) refl refl refl (record { event = made 1 (delivers 1 out text) (gets 1 0 1 1 6 0 0); at = refl; here = refl; names = refl }))
+    (sameNode 3 4 (made 1 (delivers 1 out text) (gets 1 0 1 1 6 0 0)) (made 1 (sends 1 2 report out) (wrote 24)) (omega arith) refl refl refl refl refl))
+
+pub story-before : HappenedBefore (after story .log) (after story .history) 0 4
+story-before = rw (story-frames, story-events) before-report
+
+-- the theorem speaks of it
+range : InRange 3 3
+range = record { atLeast2 = omega arith; atMost12 = omega arith; capFrom = omega arith; capTo = omega arith }
+
+story-bodies : BodiesOfBytes story
+unfolding story
+story-bodies = (small-bytes closing (omega arith), (small-bytes closed (omega arith), (small-bytes report (omega arith), tt)))
+
+pub story-demand3 : Demand3For 3 3 (after story)
+unfolding story
+story-demand3 = demand3 3 3 range story story-bodies (omega arith)
+
+-- and says that "closing", which came before the report, is delivered before it
+pub story-order : (t : ℕ) × (t < 9) × DeliveredAt (after story .history) t closingFrame
+unfolding header decode entriesFrom entryAt u32At matrixOf
+story-order =
+    story-demand3 .causal 0 2 9 (issuedBy 0 closingFrame) (issuedBy 4 reportFrame) (rw story-frames refl) (rw story-frames refl) refl refl refl story-before
+    (record { event = made 2 (delivers 2 out text) (gets 1 1 1 1 6 0 0); at = rw story-events refl; here = refl; names = refl })
+
+-- ---- an extra frame: after its second delivery four entries stand at node 0, a tie, and an extra frame goes to node 1, which delivers it
+unfoldable pub tie : List Step
+tie =
+    sends 0 1 [] out
+    ∷ sends 0 2 [] out
+    ∷ sends 1 2 [] out
+    ∷ sends 1 0 [] out
+    ∷ sends 2 1 [] out
+    ∷ sends 2 0 [] out
+    ∷ offers 0 3
+    ∷ delivers 0 out text
+    ∷ offers 0 5
+    ∷ delivers 0 out text
+    ∷ offers 1 0
+    ∷ delivers 1 out text
+    ∷ offers 1 4
+    ∷ delivers 1 out text
+    ∷ offers 1 6
+    ∷ delivers 1 out text
+    ∷ []
+
+-- the second delivery at node 0 writes an extra frame of 24 bytes; node 1 delivers it third, kind 2, number 2
+tie-answers : answers tie
+    ≡ wrote 12 ∷ wrote 18 ∷ wrote 12 ∷ wrote 18 ∷ wrote 12 ∷ wrote 18
+    ∷ holds 1 true ∷ gets 1 1 1 1 0 0 0 ∷ holds 1 true ∷ gets 1 2 1 1 0 24 1
+    ∷ holds 1 true ∷ gets 1 0 1 1 0 0 0 ∷ holds 1 true ∷ gets 1 2 1 1 0 0 0 ∷ holds 1 true ∷ gets 2 0 2 1 0 0 0 ∷ []
+unfolding tie step setUp inRange cutFor sendCall offerCall deliverCall brokenRecord zeroDiagonal zeroColumn withinLimit zeroFrom count columnCount flat entry atLimit protocolSend.send protocolOffer.offer protocolDeliver.deliver deliverable trimFor fullest clear only merge framesOf encode sealed front headerBytes headerOf header ownLength entriesBytes entryBytes entriesOf listed placed entriesFrom entryAt matrixOf le16 le32 u16At u32At bytes.put trailer trailers.counted checksum total decode wrongQueue sameBytes heldRefused someRefused someAlike arrivalRefusal frameRefusal wrongTrailer hasTrailer countBack sumBack wrongKind wrongAddress wrongContent wrongBody wrongEntries eachOk entryOk before rising risingAfter zeros padded slots frameIn heldFrames without
+tie-answers = refl
+
+-- it carries (0,1) = 1 and (2,1) = 1
+tie-extra : drop 6 (frames tie) ≡ (2 ∷ 0 ∷ 1 ∷ 2 ∷ 0 ∷ 3 ∷ 3 ∷ 0 ∷ 0 ∷ 1 ∷ 1 ∷ 0 ∷ 0 ∷ 0 ∷ 2 ∷ 1 ∷ 1 ∷ 0 ∷ 0 ∷ 0 ∷ 20 ∷ 0 ∷ 37 ∷ 0 ∷ []) ∷ []
+unfolding tie step setUp inRange cutFor sendCall offerCall deliverCall brokenRecord zeroDiagonal zeroColumn withinLimit zeroFrom count columnCount flat entry atLimit protocolSend.send protocolOffer.offer protocolDeliver.deliver deliverable trimFor fullest clear only merge framesOf encode sealed front headerBytes headerOf header ownLength entriesBytes entryBytes entriesOf listed placed entriesFrom entryAt matrixOf le16 le32 u16At u32At bytes.put trailer trailers.counted checksum total decode wrongQueue sameBytes heldRefused someRefused someAlike arrivalRefusal frameRefusal wrongTrailer hasTrailer countBack sumBack wrongKind wrongAddress wrongContent wrongBody wrongEntries eachOk entryOk before rising risingAfter zeros padded slots frameIn heldFrames without
+tie-extra = refl
+
+-- ---- no common order is imposed: of two unrelated senders, 0 and 1, node 2 delivers 0 first, and node 3 delivers 1 first
+unfoldable pub opposite : List Step
+opposite =
+    sends 0 2 [] out
+    ∷ sends 0 3 [] out
+    ∷ sends 1 2 [] out
+    ∷ sends 1 3 [] out
+    ∷ offers 2 0
+    ∷ delivers 2 out text
+    ∷ offers 2 2
+    ∷ delivers 2 out text
+    ∷ offers 3 3
+    ∷ delivers 3 out text
+    ∷ offers 3 1
+    ∷ delivers 3 out text
+    ∷ []
+
+opposite-answers : map (λ (e : Event). e .answer) (run 4 (start 4 4) opposite .history)
+    ≡ wrote 12 ∷ wrote 18 ∷ wrote 12 ∷ wrote 18
+    ∷ holds 1 true ∷ gets 1 0 1 1 0 0 0 ∷ holds 1 true ∷ gets 1 1 1 1 0 0 0
+    ∷ holds 1 true ∷ gets 1 1 1 1 0 0 0 ∷ holds 1 true ∷ gets 1 0 1 1 0 0 0 ∷ []
+unfolding opposite step setUp inRange cutFor sendCall offerCall deliverCall brokenRecord zeroDiagonal zeroColumn withinLimit zeroFrom count columnCount flat entry atLimit protocolSend.send protocolOffer.offer protocolDeliver.deliver deliverable trimFor fullest clear only merge framesOf encode sealed front headerBytes headerOf header ownLength entriesBytes entryBytes entriesOf listed placed entriesFrom entryAt matrixOf le16 le32 u16At u32At bytes.put trailer trailers.counted checksum total decode wrongQueue sameBytes heldRefused someRefused someAlike arrivalRefusal frameRefusal wrongTrailer hasTrailer countBack sumBack wrongKind wrongAddress wrongContent wrongBody wrongEntries eachOk entryOk before rising risingAfter zeros padded slots frameIn heldFrames without
+opposite-answers = refl
+
+-- ---- calls that are refused, and what is no step: a short output, a body of 65 bytes, a frame at a wrong node, held already, delivered before; a node that is not there, an issue not made
+unfoldable pub refusals : List Step
+refusals =
+    sends 0 1 [] (replicate 2047 0)
+    ∷ sends 0 1 (replicate 65 0) out
+    ∷ sends 0 0 [] out
+    ∷ sends 0 1 [] out
+    ∷ offers 2 0
+    ∷ offers 1 0
+    ∷ offers 1 0
+    ∷ delivers 1 out []
+    ∷ delivers 1 out text
+    ∷ offers 1 0
+    ∷ sends 3 1 [] out
+    ∷ offers 1 1
+    ∷ []
+
+refusals-answers : answers refusals
+    ≡ sent (send.Refused 3) ∷ sent (send.Refused 7) ∷ sent (send.Refused 6) ∷ wrote 12
+    ∷ offered (offer.Refused 12) ∷ holds 1 true ∷ offered (offer.Refused 15) ∷ delivered (deliver.Refused 3) ∷ gets 1 0 1 1 0 0 0 ∷ offered (offer.Refused 14) ∷ []
+unfolding refusals step setUp inRange cutFor sendCall offerCall deliverCall brokenRecord zeroDiagonal zeroColumn withinLimit zeroFrom count columnCount flat entry atLimit protocolSend.send protocolOffer.offer protocolDeliver.deliver deliverable trimFor fullest clear only merge framesOf encode sealed front headerBytes headerOf header ownLength entriesBytes entryBytes entriesOf listed placed entriesFrom entryAt matrixOf le16 le32 u16At u32At bytes.put trailer trailers.counted checksum total decode wrongQueue sameBytes heldRefused someRefused someAlike arrivalRefusal frameRefusal wrongTrailer hasTrailer countBack sumBack wrongKind wrongAddress wrongContent wrongBody wrongEntries eachOk entryOk before rising risingAfter zeros padded slots frameIn heldFrames without
+refusals-answers = refl

@@ -1,0 +1,111 @@
+-- Frames end to end, as a step issues them: cut by their own e and b they are those frames, and a step's frames fit its output. Assumes nothing.
+use Prim.Native.Nat.{_*_, _<_, _≤_, suc, zero, ℕ}
+use mathlib.Core.List.{List, [], _++_, _∷_, map}
+use mathlib.Core.Option.{some}
+use mathlib.Core.Path.{_∙_, _≡_, ap, ap₂, refl, sym}
+use native.Mathlib.Omega.{arith}
+use lib.Dec.{leb}
+use lib.ListN.{getElem?, length, length-append, take}
+use lib.Seq.{drop-at, take-at}
+use Rattle.causality.proofs.Slots.{header-append, own-least}
+use Rattle.causality.specs.Demand3.{cutFor, framesIn}
+use Rattle.frame.proofs.EntryLists.{length-entriesOf}
+use Rattle.frame.proofs.Written.{header-encode, length-encode}
+use Rattle.frame.specs.Frame.{encode, headerOf}
+use Rattle.frame.specs.Frames.{framesOf}
+use Rattle.frame.specs.Header.{header, ownLength}
+use Rattle.matrix.proofs.Bounds.{only-count}
+use Rattle.matrix.proofs.Columns.{fullest-lt}
+use Rattle.matrix.proofs.Matrix.{nonZero-le}
+use Rattle.matrix.proofs.Sums.{sum-ones}
+use Rattle.matrix.specs.Matrix.{Matrix, clear, columnCount, count, fullest, nonZero}
+use Rattle.matrix.specs.Message.{Message, extraMessage}
+use Rattle.protocol.proofs.Lists.{at-none}
+use Rattle.protocol.specs.Trim.{Trimmed, issuing, trimFor, untouched}
+use Rattle.wire.proofs.Bytes.{put-back}
+use Rattle.wire.proofs.Tests.{cond-elim}
+use Rattle.wire.specs.Limits.{maxFrame}
+use Rattle.wire.specs.Bytes.{put as write}
+
+-- a frame's own length
+pub own-encode : (m : Message) → ownLength (header (encode m)) ≡ length (encode m)
+unfolding ownLength headerOf
+own-encode m = rw header-encode (omega (arith, length-encode m, length-entriesOf (m .entries)))
+
+-- one frame is cut off
+cut-more : (k : ℕ) (s r : List ℕ) → ownLength (header s) ≡ length s → cutFor (suc k) (s ++ r) ≡ s ∷ cutFor k r
+unfolding cutFor
+cut-more k [] r o = absurd (omega (arith, own-least (header [])))
+cut-more k (b ∷ s) r o =
+    let e : ownLength (header (b ∷ s ++ r)) ≡ length (b ∷ s) = ap ownLength (header-append (b ∷ s) r (omega (arith, own-least (header (b ∷ s))))) ∙ o in
+    ap₂ (λ (x : List ℕ) (y : List (List ℕ)). x ∷ y) (take-at (b ∷ s) r (ownLength (header (b ∷ s ++ r))) (sym e)) (ap (cutFor k) (drop-at (b ∷ s) r (ownLength (header (b ∷ s ++ r))) (sym e)))
+
+cut-none : (k : ℕ) → cutFor k [] ≡ []
+unfolding cutFor
+cut-none zero = refl
+cut-none (suc k) = refl
+
+-- all are
+cut-all : (k : ℕ) (l : List Message) → length l ≤ k → cutFor k (framesOf l) ≡ map encode l
+unfolding framesOf
+cut-all k [] h = cut-none k
+cut-all zero (m ∷ l) h = absurd (omega arith)
+cut-all (suc k) (m ∷ l) h = cut-more k (encode m) (framesOf l) (own-encode m) ∙ ap (λ (y : List (List ℕ)). encode m ∷ y) (cut-all k l (omega arith))
+
+frames-many : (l : List Message) → length l ≤ length (framesOf l)
+unfolding framesOf
+frames-many [] = omega arith
+frames-many (m ∷ l) = omega (arith, length-append (encode m) (framesOf l), length-encode m, frames-many l)
+
+pub cut-frames : (l : List Message) → framesIn (framesOf l) ≡ map encode l
+cut-frames l = cut-all (length (framesOf l)) l (frames-many l)
+
+-- nothing counted, nothing issued
+pub cut-nothing : (out : List ℕ) → framesIn (take 0 out) ≡ []
+cut-nothing out = cut-none 0
+
+-- what is written from the front of an output on, and counted, is cut into its frames
+pub issued-frames : (out : List ℕ) (l : List Message) → length (framesOf l) ≤ length out → framesIn (take (length (framesOf l)) (write out 0 (framesOf l))) ≡ map encode l
+issued-frames out l h = ap framesIn (put-back out 0 (framesOf l) (omega arith)) ∙ cut-frames l
+
+-- an extra frame has at most 84 bytes
+column-twelve : (m : Matrix) (y : ℕ) → columnCount m y ≤ 12
+unfolding columnCount
+column-twelve m y = sum-ones 12 (λ x. nonZero (m x y)) (λ x _. nonZero-le (m x y))
+
+extra-short : (from l n cap : ℕ) (m : Matrix) → l < 12 → length (encode (extraMessage from l n cap m)) ≤ 84
+extra-short from l n cap m h = omega (arith, length-encode (extraMessage from l n cap m), only-count m l h, column-twelve m l)
+
+-- k rounds of trim write at most 84 k
+pub trim-room : (k me n cap : ℕ) (m : Matrix) → length (framesOf ((trimFor k me n cap m) .extras)) ≤ 84 * k
+unfolding trimFor framesOf
+trim-room zero me n cap m = omega arith
+trim-room (suc k) me n cap m =
+    cond-elim (λ (t : Trimmed). length (framesOf (t .extras)) ≤ 84 * suc k) (leb (count m) cap) (untouched m) (issuing (extraMessage me (fullest m) n cap m) (trimFor k me n cap (clear me (fullest m) m)))
+    (λ _. omega arith)
+    (λ _. omega (
+      arith,
+      length-append (encode (extraMessage me (fullest m) n cap m)) (framesOf ((trimFor k me n cap (clear me (fullest m) m)) .extras)),
+      extra-short me (fullest m) n cap m (fullest-lt m),
+      trim-room k me n cap (clear me (fullest m) m),
+    ))
+
+-- a send's frames fit 2,048 bytes
+pub send-room : (f : Message) → length (encode f) ≤ maxFrame → (l : List Message) → length (framesOf l) ≤ 1008 → length (framesOf (f ∷ l)) ≤ 2048
+unfolding framesOf
+send-room f h l r = omega (arith, length-append (encode f) (framesOf l))
+
+-- an extra message has no body
+pub trim-bare : (k me n cap : ℕ) (m : Matrix) (p : ℕ) (f : Message) → getElem? ((trimFor k me n cap m) .extras) p ≡ some f → f .body ≡ []
+unfolding trimFor
+trim-bare zero me n cap m p f e = absurd (at-none p f e)
+trim-bare (suc k) me n cap m p f e =
+    cond-elim (λ (t : Trimmed). getElem? (t .extras) p ≡ some f → f .body ≡ []) (leb (count m) cap) (untouched m) (issuing (extraMessage me (fullest m) n cap m) (trimFor k me n cap (clear me (fullest m) m)))
+    (λ _ e. absurd (at-none p f e)) (λ _. go p (λ q. trim-bare k me n cap (clear me (fullest m) m) q f)) e
+  where
+    rest : Trimmed
+    rest = trimFor k me n cap (clear me (fullest m) m)
+
+    go : (p : ℕ) → ((q : ℕ) → getElem? (rest .extras) q ≡ some f → f .body ≡ []) → getElem? (extraMessage me (fullest m) n cap m ∷ rest .extras) p ≡ some f → f .body ≡ []
+    go zero ih e = let z : extraMessage me (fullest m) n cap m ≡ f = cc in ap (λ (x : Message). x .body) (sym z)
+    go (suc p) ih e = ih p e

@@ -1,0 +1,126 @@
+-- An offer of an issued frame, on record and bytes, leaves what the offer of its message leaves. Assumes nothing.
+use Prim.Native.Nat.{_<_, ℕ}
+use mathlib.Core.Bool.{cond, not}
+use mathlib.Core.List.{List, [], _++_, _∷_, map, map-append}
+use mathlib.Core.Path.{_∙_, _≡_, ap, ap₂, refl, subst, sym}
+use lib.Dec.{T, eqb}
+use lib.ListN.{length}
+use Rattle.causality.proofs.Frames.{cut-nothing}
+use Rattle.causality.proofs.Matches.{Agrees}
+use Rattle.causality.proofs.Queues.{Bodies, frame-passes, frames-back, messages-back, queue-length, queue-right, sound-issue}
+use Rattle.causality.proofs.Records.{T-not-not, node-back, record-kept}
+use Rattle.causality.proofs.Refused.{SaysNo, not-zero, refused-agrees}
+use Rattle.causality.specs.Demand3.{offered}
+use Rattle.frame.proofs.Written.{decode-encode}
+use Rattle.frame.specs.Frame.{decode, encode}
+use Rattle.frame.specs.Refusals.{frameRefusal}
+use Rattle.holdback.specs.Check.{wrongQueue}
+use Rattle.holdback.specs.Slots.{heldMessages, laid, queueSize}
+use Rattle.matrix.specs.Message.{Message}
+use Rattle.node.specs.Answers.{AfterOffer}
+use Rattle.node.specs.Calls.{acceptOffer, offerCall, refuseOffer}
+use Rattle.node.specs.Record.{brokenRecord, nodeOf, recordOf}
+use Rattle.protocol.proofs.Good.{Good}
+use Rattle.protocol.proofs.Grown.{nodeAt}
+use Rattle.protocol.proofs.Lists.{at-none}
+use Rattle.protocol.specs.Offer.{claimsTooMuch, deliveredBefore, heldAlready, holding, noRoom, notForMe, offer}
+use Rattle.wire.proofs.Tests.{cond-elim, cond-no, eq→eqb}
+use Rattle.protocol.specs.World as messages
+use Rattle.protocol.specs.Answer as protocol
+use Rattle.protocol.specs.Node.{Node as MessageNode}
+use Rattle.node.specs.declared.Node.{Node as Record}
+use Rattle.node.specs.declared.OfferAnswer.the-variants as answer
+use Rattle.node.specs.Calls.{refusal as refusalOf}
+
+-- an offer of m at d is refused, or it is not
+data Case (d : MessageNode) (m : Message) : Type 0 where
+  refuses : (k : ℕ) → T (not (eqb k 0)) → offer d m ≡ protocol.refuse k d → Case d m
+  accepts : offer d m ≡ holding d m → Case d m
+
+case : (d : MessageNode) (m : Message) → Case d m
+unfolding offer
+case d m =
+    cond-elim P (notForMe d m) (protocol.refuse 12 d) t₂ (λ _ e. refuses 12 tt e)
+    (λ _. cond-elim P (claimsTooMuch d m) (protocol.refuse 13 d) t₃ (λ _ e. refuses 13 tt e)
+    (λ _. cond-elim P (deliveredBefore d m) (protocol.refuse 14 d) t₄ (λ _ e. refuses 14 tt e)
+    (λ _. cond-elim P (heldAlready d m) (protocol.refuse 15 d) t₅ (λ _ e. refuses 15 tt e)
+    (λ _. cond-elim P (noRoom d m) (protocol.refuse 16 d) (holding d m) (λ _ e. refuses 16 tt e) (λ _ e. accepts e)))))
+    refl
+  where
+    P : protocol.Outcome → Type 0
+    P o = offer d m ≡ o → Case d m
+
+    t₅ : protocol.Outcome
+    t₅ = cond (noRoom d m) (protocol.refuse 16 d) (holding d m)
+
+    t₄ : protocol.Outcome
+    t₄ = cond (heldAlready d m) (protocol.refuse 15 d) t₅
+
+    t₃ : protocol.Outcome
+    t₃ = cond (deliveredBefore d m) (protocol.refuse 14 d) t₄
+
+    t₂ : protocol.Outcome
+    t₂ = cond (claimsTooMuch d m) (protocol.refuse 13 d) t₃
+
+module _ (n cap : ℕ) (w : messages.World) (g : Good n (λ i. cap) w) (few : length (w .history) < 1000000000) (bodies : Bodies w) (i : ℕ) (hi : i < n) where
+  -- the node
+  abbrev d : MessageNode
+  d = nodeAt n (λ k. cap) w i
+
+  -- its record
+  abbrev r : Record
+  r = recordOf d
+
+  -- its queue
+  abbrev q : List ℕ
+  q = laid (map encode (w .nodes i .held))
+
+  -- the node is read back from record and queue
+  pub whole-back : nodeOf r (heldMessages (length (w .nodes i .held)) q) ≡ d
+  whole-back =
+      node-back n cap w g few i hi (heldMessages (length (w .nodes i .held)) q)
+      ∙ ap (λ (l : List Message). record { me = i; n = n; cap = cap; matrix = w .nodes i .matrix; deliv = w .nodes i .deliv; held = l }) (messages-back n cap w g few bodies i hi)
+
+  -- check 4 is not met
+  pub queue-passes : T (not (wrongQueue (nodeOf r []) (length (w .nodes i .held)) q))
+  queue-passes =
+      subst (λ (z : MessageNode). T (not (wrongQueue z (length (w .nodes i .held)) q))) (sym (node-back n cap w g few i hi [])) (queue-right n cap w g few bodies i hi)
+
+  -- what an offer leaves
+  abbrev Left : protocol.Outcome → AfterOffer → Type 0
+  Left o c = Agrees o (c .result .node) (c .queue) (offered (c .result .answer)) []
+
+  -- the last step of the call
+  abbrev settle : List ℕ → protocol.Outcome → AfterOffer
+  settle s o = cond (protocol.accepted (o .answer)) (acceptOffer r s q o) (refuseOffer (refusalOf (o .answer)) r q)
+
+  says-no : (k : ℕ) → T (not (eqb k 0)) → SaysNo (offered (answer.Refused k))
+  says-no k t = record { refuses = not-zero k t; nothing = refl; holds = refl; gives = refl; counts = refl }
+
+  settled : (m : Message) → Case d m → Left (offer d m) (settle (encode m) (offer d m))
+  settled m (refuses k t e) = subst (λ (o : protocol.Outcome). Left o (settle (encode m) o)) (sym e) (refused-agrees d k (offered (answer.Refused k)) [] (says-no k t))
+  settled m (accepts e) =
+      subst (λ (o : protocol.Outcome). Left o (settle (encode m) o)) (sym e)
+      (record {
+        node = refl;
+        queue = ap (λ (l : List (List ℕ)). laid (l ++ (encode m ∷ []))) (frames-back n cap w g few bodies i hi) ∙ ap laid (sym (map-append encode (w .nodes i .held) (m ∷ [])));
+        answer = record { acceptance = refl; names = refl; taken = refl; given = refl };
+        frames = cut-nothing [];
+        bodies = λ p f a. absurd (at-none p f a);
+      })
+
+  -- an offer of issue p
+  pub offer-agrees : (p : ℕ) (f : messages.Issue) → messages.IssueAt w p f → Left (offer d (f .message)) (offerCall r (encode (f .message)) q)
+  unfolding offerCall
+  offer-agrees p f at =
+      let s : List ℕ = encode (f .message) in
+      let o : protocol.Outcome = offer (nodeOf r (heldMessages (length (w .nodes i .held)) q)) (decode s) in
+      let t₈ : AfterOffer = cond (not (eqb (frameRefusal n cap s) 0)) (refuseOffer (frameRefusal n cap s) r q) (settle s o) in
+      let t₄ : AfterOffer = cond (wrongQueue (nodeOf r []) (length (w .nodes i .held)) q) (refuseOffer 4 r q) t₈ in
+      subst (Left (offer d (f .message)))
+      (sym (cond-no (brokenRecord r) (refuseOffer 2 r q) (cond (not (eqb (length q) queueSize)) (refuseOffer 3 r q) t₄) (record-kept n cap w g few i hi)
+      ∙ cond-no (not (eqb (length q) queueSize)) (refuseOffer 3 r q) t₄ (T-not-not (eqb (length q) queueSize) (eq→eqb (length q) queueSize (queue-length n cap w g few bodies i hi)))
+      ∙ cond-no (wrongQueue (nodeOf r []) (length (w .nodes i .held)) q) (refuseOffer 4 r q) t₈ queue-passes
+      ∙ cond-no (not (eqb (frameRefusal n cap s) 0)) (refuseOffer (frameRefusal n cap s) r q) (settle s o) (T-not-not (eqb (frameRefusal n cap s) 0) (eq→eqb (frameRefusal n cap s) 0 (frame-passes n cap w g few bodies p f at)))
+      ∙ ap₂ (λ (z : MessageNode) (m : Message). settle s (offer z m)) whole-back (decode-encode (f .message) (sound-issue n cap w g few bodies p f at))))
+      (settled (f .message) (case d (f .message)))

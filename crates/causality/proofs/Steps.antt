@@ -1,0 +1,163 @@
+-- Each step on bytes is matched by one step on messages, so a list of steps keeps two worlds matched from the start on. Assumes nothing.
+use Prim.Native.Nat.{_<_, _≤_, ℕ}
+use mathlib.Core.Bool.{Bool, _||_, cond}
+use mathlib.Core.List.{List, [], map}
+use mathlib.Core.Path.{_∙_, _≡_, ap, refl, subst, sym}
+use native.Mathlib.Omega.{arith}
+use lib.Dec.{T, ltb}
+use lib.ListN.{length}
+use Rattle.causality.proofs.Delivers.{deliver-agrees, deliver-short}
+use Rattle.causality.proofs.Matches.{Agrees, Matches, SameStep, matches-after}
+use Rattle.causality.proofs.Offers.{offer-agrees}
+use Rattle.causality.proofs.Refused.{SaysNo, own-refused, refused-agrees}
+use Rattle.causality.proofs.Sends.{send-agrees, send-short}
+use Rattle.causality.specs.Demand3.{Answer, Step, World, afterCall, deliverAt, delivered, delivers, offerAt, offered, offers, sendAt, sends, sent}
+use Rattle.frame.specs.Frame.{encode}
+use Rattle.holdback.specs.Slots.{laid}
+use Rattle.node.specs.Answers.{AfterDeliver, AfterOffer, AfterSend}
+use Rattle.node.specs.Calls.{deliverCall, offerCall, sendCall}
+use Rattle.node.specs.Record.{recordOf}
+use Rattle.protocol.proofs.Bounds.{below-limit}
+use Rattle.protocol.proofs.Good.{Good}
+use Rattle.protocol.proofs.Grown.{node-eq, nodeAt}
+use Rattle.protocol.specs.Offer.{offer}
+use Rattle.protocol.specs.Send.{send}
+use Rattle.wire.specs.Bytes.{AllBytes}
+use Rattle.protocol.specs.World as messages
+use Rattle.protocol.specs.Answer as protocol
+use Rattle.protocol.specs.Node.{Node as MessageNode}
+use Rattle.node.specs.declared.Node.{Node as Record}
+use Rattle.node.specs.declared.SendAnswer.the-variants as sendAnswer
+use Rattle.node.specs.declared.DeliverAnswer.the-variants as deliverAnswer
+use Rattle.protocol.specs.Deliver.{deliver}
+
+-- whether a deliver is lent too little
+abbrev pub lentLess : List ℕ → List ℕ → Bool
+lentLess out body = ltb (length out) 2048 || ltb (length body) 64
+
+-- the step on messages: a call that is lent too little is refused, as a send to itself is
+abbrev pub forget : Step → messages.Step
+forget (sends i to body out) = cond (ltb (length out) 2048) (messages.sends i i []) (messages.sends i to body)
+forget (offers i p) = messages.offers i p
+forget (delivers i out body) = cond (lentLess out body) (messages.sends i i []) (messages.delivers i)
+
+-- sends and delivers offer nothing
+send-send : (i to k j : ℕ) (body text out : List ℕ) → SameStep (messages.sends i to body) (sends k j text out)
+send-send i to k j body text out = record {
+  there = λ a p e. let z : _≡_ {A = ℕ} 0 1 = cc in absurd (omega arith);
+  back = λ a p e. let z : _≡_ {A = ℕ} 0 1 = cc in absurd (omega arith);
+}
+
+send-deliver : (i to k : ℕ) (body out text : List ℕ) → SameStep (messages.sends i to body) (delivers k out text)
+send-deliver i to k body out text = record {
+  there = λ a p e. let z : _≡_ {A = ℕ} 0 1 = cc in absurd (omega arith);
+  back = λ a p e. let z : _≡_ {A = ℕ} 0 1 = cc in absurd (omega arith);
+}
+
+deliver-deliver : (i k : ℕ) (out text : List ℕ) → SameStep (messages.delivers i) (delivers k out text)
+deliver-deliver i k out text = record {
+  there = λ a p e. let z : _≡_ {A = ℕ} 0 1 = cc in absurd (omega arith);
+  back = λ a p e. let z : _≡_ {A = ℕ} 0 1 = cc in absurd (omega arith);
+}
+
+offer-offer : (i p : ℕ) → SameStep (messages.offers i p) (offers i p)
+offer-offer i p = record {
+  there = λ a k e. let x : i ≡ a = cc in let y : p ≡ k = cc in rw (x, y);
+  back = λ a k e. let x : i ≡ a = cc in let y : p ≡ k = cc in rw (x, y);
+}
+
+-- a step at node i
+module _ (n cap : ℕ) (w : messages.World) (b : World) (g : Good n (λ i. cap) w) (few : length (w .history) < 1000000000) (m : Matches n w b) (i : ℕ) (hi : i < n) where
+  -- the node
+  abbrev d : MessageNode
+  d = nodeAt n (λ k. cap) w i
+
+  same-node : w .nodes i ≡ d
+  same-node = node-eq n (λ k. cap) w g i hi
+
+  same-record : b .records i ≡ recordOf d
+  same-record = m .records i hi ∙ ap recordOf same-node
+
+  same-queue : b .queues i ≡ laid (map encode (w .nodes i .held))
+  same-queue = m .queues i hi
+
+  -- a step on messages and a call that agree
+  matched : (s : messages.Step) (t : Step) → SameStep s t → (f : MessageNode → protocol.Outcome) (r : Record) (q : List ℕ) (a : Answer) (out : List ℕ) → Agrees (f d) r q a out
+      → Matches n (messages.afterStep w i s (f (w .nodes i))) (afterCall b i t r q a out)
+  matched s t same f r q a out h =
+      subst (λ (z : MessageNode). Matches n (messages.afterStep w i s (f z)) (afterCall b i t r q a out)) (sym same-node) (matches-after n w b m i s t same (f d) r q a out h)
+
+  -- a refused call agrees with a send to itself
+  own-agrees : (a : Answer) (out : List ℕ) → SaysNo a → Agrees (send d i []) (recordOf d) (laid (map encode (w .nodes i .held))) a out
+  own-agrees a out s =
+      subst (λ (o : protocol.Outcome). Agrees o (recordOf d) (laid (map encode (w .nodes i .held))) a out) (sym (own-refused d (below-limit n (λ k. cap) w g few i))) (refused-agrees d 6 a out s)
+
+  -- a send
+  module _ (to : ℕ) (body out : List ℕ) where
+    -- what the step on messages s and the call leave
+    abbrev Sent : messages.Step → protocol.Outcome → Type 0
+    Sent s o = Matches n (messages.afterStep w i s o) (sendAt b i (sends i to body out) (sendCall (b .records i) to body out))
+
+    -- the call with any record and queue
+    abbrev SentWith : protocol.Outcome → Record → List ℕ → Type 0
+    SentWith o r q = let c : AfterSend = sendCall r to body out in Agrees o (c .result .node) q (sent (c .result .answer)) (c .out)
+
+    sent-with : (o : protocol.Outcome) → SentWith o (recordOf d) (laid (map encode (w .nodes i .held))) → SentWith o (b .records i) (b .queues i)
+    sent-with o h = subst (λ (r : Record). SentWith o r (b .queues i)) (sym same-record) (subst (λ (q : List ℕ). SentWith o (recordOf d) q) (sym same-queue) h)
+
+    pub send-matches : AllBytes body → 2048 ≤ length out → Sent (messages.sends i to body) (send (w .nodes i) to body)
+    send-matches bytes h =
+        let c : AfterSend = sendCall (b .records i) to body out in
+        matched (messages.sends i to body) (sends i to body out) (send-send i to i to body body out) (λ z. send z to body) (c .result .node) (b .queues i) (sent (c .result .answer)) (c .out)
+        (sent-with (send d to body) (send-agrees n cap w g few (m .bodies) i hi to body out bytes h))
+
+    pub send-matches-short : length out < 2048 → Sent (messages.sends i i []) (send (w .nodes i) i [])
+    send-matches-short h =
+        let c : AfterSend = sendCall (b .records i) to body out in
+        matched (messages.sends i i []) (sends i to body out) (send-send i i i to [] body out) (λ z. send z i []) (c .result .node) (b .queues i) (sent (c .result .answer)) (c .out)
+        (sent-with (send d i [])
+        (subst (λ (x : AfterSend). Agrees (send d i []) (x .result .node) (laid (map encode (w .nodes i .held))) (sent (x .result .answer)) (x .out)) (sym (send-short n cap w g few (m .bodies) i hi to body out h))
+        (own-agrees (sent (sendAnswer.Refused 3)) out (record { refuses = refl; nothing = refl; holds = refl; gives = refl; counts = refl }))))
+
+  -- an offer of issue p
+  module _ (p : ℕ) (f : messages.Issue) (at : messages.IssueAt w p f) where
+    -- the call with any record and queue
+    abbrev pub OfferedWith : Record → List ℕ → Type 0
+    OfferedWith r q = let c : AfterOffer = offerCall r (encode (f .message)) q in Agrees (offer d (f .message)) (c .result .node) (c .queue) (offered (c .result .answer)) []
+
+    pub offered-here : OfferedWith (b .records i) (b .queues i)
+    offered-here = subst (λ (r : Record). OfferedWith r (b .queues i)) (sym same-record) (subst (λ (q : List ℕ). OfferedWith (recordOf d) q) (sym same-queue) (offer-agrees n cap w g few (m .bodies) i hi p f at))
+
+    pub offer-matches : Matches n (messages.afterStep w i (messages.offers i p) (offer (w .nodes i) (f .message))) (offerAt b i (offers i p) (offerCall (b .records i) (encode (f .message)) (b .queues i)))
+    offer-matches =
+        let c : AfterOffer = offerCall (b .records i) (encode (f .message)) (b .queues i) in
+        matched (messages.offers i p) (offers i p) (offer-offer i p) (λ z. offer z (f .message)) (c .result .node) (c .queue) (offered (c .result .answer)) [] offered-here
+
+  -- a deliver
+  module _ (out body : List ℕ) where
+    -- what the step on messages s and the call leave
+    abbrev Given : messages.Step → protocol.Outcome → Type 0
+    Given s o = Matches n (messages.afterStep w i s o) (deliverAt b i (delivers i out body) (deliverCall (b .records i) (b .queues i) out body))
+
+    -- the call with any record and queue
+    abbrev pub GivenWith : protocol.Outcome → Record → List ℕ → Type 0
+    GivenWith o r q = let c : AfterDeliver = deliverCall r q out body in Agrees o (c .result .node) (c .queue) (delivered (c .result .answer)) (c .out)
+
+    given-with : (o : protocol.Outcome) → GivenWith o (recordOf d) (laid (map encode (w .nodes i .held))) → GivenWith o (b .records i) (b .queues i)
+    given-with o h = subst (λ (r : Record). GivenWith o r (b .queues i)) (sym same-record) (subst (λ (q : List ℕ). GivenWith o (recordOf d) q) (sym same-queue) h)
+
+    pub given-here : 2048 ≤ length out → 64 ≤ length body → GivenWith (deliver d) (b .records i) (b .queues i)
+    given-here h k = given-with (deliver d) (deliver-agrees n cap w g few (m .bodies) i hi out body h k)
+
+    pub deliver-matches : 2048 ≤ length out → 64 ≤ length body → Given (messages.delivers i) (deliver (w .nodes i))
+    deliver-matches h k =
+        let c : AfterDeliver = deliverCall (b .records i) (b .queues i) out body in
+        matched (messages.delivers i) (delivers i out body) (deliver-deliver i i out body) deliver (c .result .node) (c .queue) (delivered (c .result .answer)) (c .out) (given-here h k)
+
+    pub deliver-matches-short : T (lentLess out body) → Given (messages.sends i i []) (send (w .nodes i) i [])
+    deliver-matches-short h =
+        let c : AfterDeliver = deliverCall (b .records i) (b .queues i) out body in
+        matched (messages.sends i i []) (delivers i out body) (send-deliver i i i [] out body) (λ z. send z i []) (c .result .node) (c .queue) (delivered (c .result .answer)) (c .out)
+        (given-with (send d i [])
+        (subst (λ (x : AfterDeliver). Agrees (send d i []) (x .result .node) (x .queue) (delivered (x .result .answer)) (x .out)) (sym (deliver-short n cap w g few (m .bodies) i hi out body h))
+        (own-agrees (delivered (deliverAnswer.Refused 3)) out (record { refuses = refl; nothing = refl; holds = refl; gives = refl; counts = refl }))))
