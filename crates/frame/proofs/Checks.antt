@@ -1,5 +1,4 @@
 -- What is left of the checks 9 to 11 once their first tests are passed. Assumes nothing.
--- 9
 use Prim.Native.Nat.{_*_, _+_, _-_, _<_, _≤_, suc, zero, ℕ}
 use mathlib.Core.Bool.{Bool, _&&_, _||_, and-assoc, and-true, false, not, or-false, or-true, true}
 use mathlib.Core.List.{List, [], _∷_}
@@ -20,6 +19,7 @@ use Rattle.wire.specs.Bytes.{AllBytes}
 use Rattle.wire.specs.Limits.{maxCount, maxFrame}
 use Rattle.wire.specs.Trailer.{countBack, hasTrailer}
 
+-- 9
 pub kind-reserved : (h : Header) → (h .reserved ≡ 0 → ⊥) → wrongKind h ≡ true
 unfolding wrongKind
 kind-reserved h r = rw (ne-eqb (h .reserved) 0 r) (or-true (not (eqb (h .kind) 1 || eqb (h .kind) 2)))

@@ -1,5 +1,4 @@
 -- A loop that writes entries: what is written and what is left make the whole. And how the entries of an array go row by row. Assumes nothing.
--- of the entries `whole`, to be written over o₀ from `at` on, those in `left` are still to be written over o from `pos` on
 use Prim.Native.Nat.{_%_, _*_, _+_, _-_, _/_, _<_, _≤_, suc, zero, ℕ}
 use mathlib.Core.List.{List, [], _++_, append-nil}
 use mathlib.Core.Path.{_∙_, _≡_, ap, refl, sym}
@@ -18,6 +17,7 @@ use Rattle.matrix.specs.Matrix.{Matrix, only}
 use Rattle.wire.proofs.Bytes.{length-put, put-append}
 use Rattle.wire.specs.Bytes.{put}
 
+-- of the entries `whole`, to be written over o₀ from `at` on, those in `left` are still to be written over o from `pos` on
 pub record Writing (o₀ : List ℕ) (at : ℕ) (whole : List Entry) (o : List ℕ) (pos : ℕ) (left : List Entry) : Type 0 where
   pub same : length o ≡ length o₀
   pub place : pos + 6 * length left ≡ at + 6 * length whole

@@ -1,5 +1,4 @@
 -- Laws of the array of a matrix: its length, its elements, a store into it, and how its non-zero elements are counted. Assumes nothing.
--- the list f k, .. of r elements
 use Prim.Native.Nat.{_%_, _*_, _+_, _-_, _/_, _<_, _≤_, suc, zero, ℕ}
 use mathlib.Core.Bool.{_&&_, cond}
 use mathlib.Core.List.{List, _∷_}
@@ -16,6 +15,7 @@ use Rattle.matrix.specs.Matrix.{Matrix, columnCount, count, nonZero, sum
 use Rattle.wire.proofs.Bytes.{rest}
 use Rattle.wire.proofs.Tests.{T-and, and-T, cond-no, cond-yes}
 
+-- the list f k, .. of r elements
 pub length-list : (k r : ℕ) (f : ℕ → ℕ) → length (listFrom k r f) ≡ r
 length-list k zero f = refl
 length-list k (suc r) f = ap suc (length-list (k + 1) r f)

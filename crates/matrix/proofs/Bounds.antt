@@ -1,5 +1,4 @@
 -- How many entries a matrix can have: at most 144, at most 121 with a zero diagonal and a zero column, and those of its column where it is one column alone. Assumes nothing.
--- a column has at most 11 entries, and there are 11 columns that have any
 use Prim.Native.Nat.{_<_, _≤_, ℕ}
 use mathlib.Core.Path.{_≡_, ap}
 use native.Mathlib.Nat.{mul-le-mul}
@@ -13,6 +12,7 @@ use Rattle.matrix.specs.Array.{flat}
 use Rattle.matrix.specs.Matrix.{Matrix, columnCount, count, nonZero, only}
 use Rattle.matrix.specs.Message.{InRange}
 
+-- a column has at most 11 entries, and there are 11 columns that have any
 column-eleven : (m : Matrix) (y : ℕ) → y < 12 → m y y ≡ 0 → columnCount m y ≤ 11
 unfolding columnCount
 column-eleven m y h z = sum-less 12 1 y (λ x. nonZero (m x y)) h (nonZero-none (m y y) z) (λ x _. nonZero-le (m x y))

@@ -1,5 +1,4 @@
 -- Laws of the matrix and of what the steps do to it, place by place. Assumes nothing.
--- the largest: it is one of the numbers, and none has more
 use Prim.Native.Nat.{_+_, _<_, _≤_, max, suc, zero, ℕ}
 use mathlib.Core.Bool.{cond}
 use mathlib.Core.Logic.{_≢_, _⊎_, inl, inr}
@@ -12,6 +11,7 @@ use lib.Dec.{eqb, ltb, ltb→lt, lt→ltb, nltb→le}
 use Rattle.matrix.specs.Matrix.{Matrix, clear, largest, merge, nonZero, only}
 use Rattle.wire.proofs.Tests.{cond-elim, cond-no, cond-other, cond-same, cond-yes, le→nltb}
 
+-- the largest: it is one of the numbers, and none has more
 pub largest-lt : (k : ℕ) (g : ℕ → ℕ) → largest (suc k) g < suc k
 largest-lt zero g = cond-elim (λ (z : ℕ). z < 1) (ltb (g 0) (g 0)) 0 0 (λ t. omega arith) (λ t. omega arith)
 largest-lt (suc k) g = cond-elim (λ (z : ℕ). z < suc (suc k)) (ltb (g (largest (suc k) g)) (g (suc k))) (suc k) (largest (suc k) g) (λ t. omega arith) (λ t. omega (arith, largest-lt k g))

@@ -1,5 +1,4 @@
 -- What the stores of the code make of an array: a column cleared row by row, and one entry merged. Assumes nothing.
--- column j zero in the rows before r
 use Prim.Native.Nat.{_*_, _+_, _<_, max, suc, ℕ}
 use mathlib.Core.Bool.{_&&_, cond}
 use mathlib.Core.List.{List}
@@ -14,6 +13,7 @@ use Rattle.matrix.specs.Array.{entry, flat}
 use Rattle.matrix.specs.Matrix.{Matrix, clear, merge, single}
 use Rattle.wire.proofs.Tests.{T-and, and-T, cond-no, cond-yes}
 
+-- column j zero in the rows before r
 unfoldable pub emptied : ℕ → ℕ → Matrix → Matrix
 emptied r j m x y = cond (eqb y j && ltb x r) 0 (m x y)
 

@@ -1,5 +1,4 @@
 -- What the record rules tell, and the tests of a record one after the other. Assumes nothing.
--- n, me and cap that are in range
 use Prim.Native.Nat.{_*_, _<_, _≤_, ℕ}
 use mathlib.Core.Bool.{Bool, _&&_, _||_, and-false, and-true, false, not, true}
 use mathlib.Core.List.{List}
@@ -20,6 +19,7 @@ use Rattle.rules.specs.Rules.{brokenRules, inRange, withinLimit, zeroCol
 use Rattle.wire.proofs.Tests.{and-T, is-true, neqb→ne, of-true, or-T, or-not}
 use Rattle.wire.specs.Limits.{maxCount}
 
+-- n, me and cap that are in range
 pub record Ranged (me n cap : ℕ) : Type 0 where
   pub atLeast2 : 2 ≤ n
   pub atMost12 : n ≤ 12

@@ -1,5 +1,4 @@
 -- Laws of the passes: one turn of a loop that tests each number below a bound, and the passes over rows as passes over the array. Assumes nothing.
--- two tests that follow from each other are equal
 use Prim.Native.Nat.{_%_, _*_, _+_, _/_, _<_, _≤_, suc, zero, ℕ}
 use mathlib.Core.Bool.{Bool, _&&_, _||_, cond, false, not, true}
 use mathlib.Core.List.{List}
@@ -16,6 +15,7 @@ use Rattle.protocol.proofs.Below.{all-each, each-all}
 use Rattle.protocol.specs.Node.{eachBelow, someBelow}
 use Rattle.wire.proofs.Tests.{cond-elim, or-not}
 
+-- two tests that follow from each other are equal
 pub same-test : (a b : Bool) → (T a → T b) → (T b → T a) → a ≡ b
 same-test true true f g = refl
 same-test true false f g = absurd (f tt)
