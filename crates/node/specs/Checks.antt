@@ -1,11 +1,18 @@
 -- The refusals of each call as numbers: the first check that is met, in rising order, and 0 where none is.
 use Prim.Native.Nat.{ℕ}
-use mathlib.Core.Bool.{cond, not, _||_}
+use mathlib.Core.Bool.{Bool, cond, not, _||_}
 use mathlib.Core.List.{List, []}
 use lib.Dec.{eqb, ltb}
+use lib.ListN.{length}
 use Rattle.wire.specs.Limits.{maxBody}
-use Rattle.protocol.specs.Node.{atLimit}
+use Rattle.matrix.specs.Message.{Message}
+use Rattle.frame.specs.Frame.{decode}
+use Rattle.frame.specs.Refusals.{frameRefusal}
+use Rattle.protocol.specs.Node.{Node, atLimit}
 use Rattle.protocol.specs.Send.{badDestination}
+use Rattle.protocol.specs.Offer.{notForMe, claimsTooMuch, deliveredBefore, heldAlready, noRoom}
+use Rattle.holdback.specs.Slots.{queueSize, heldMessages}
+use Rattle.holdback.specs.Check.{wrongQueue}
 use Rattle.node.specs.declared.Node.{Node as Record}
 use Rattle.node.specs.Record.{brokenRecord, nodeOf}
 
@@ -13,3 +20,28 @@ use Rattle.node.specs.Record.{brokenRecord, nodeOf}
 unfoldable pub sendRefusal : Record → ℕ → ℕ → ℕ → ℕ
 sendRefusal r to body out =
     cond (brokenRecord r) 2 (cond (ltb out 2048) 3 (cond (atLimit (nodeOf r [])) 5 (cond (badDestination (nodeOf r []) to) 6 (cond (ltb maxBody body) 7 0))))
+
+-- the protocol's node of a record and its queue
+abbrev pub nodeAt : Record → List ℕ → Node
+nodeAt r q = nodeOf r (heldMessages (r .held) q)
+
+-- the protocol's refusals of an offer: 12 to 16
+unfoldable pub holdRefusal : Node → Message → ℕ
+holdRefusal d m = cond (notForMe d m) 12 (cond (claimsTooMuch d m) 13 (cond (deliveredBefore d m) 14 (cond (heldAlready d m) 15 (cond (noRoom d m) 16 0))))
+
+-- offer: 2 to 4, 8 to 11, 12 to 16
+unfoldable pub offerRefusal : Record → List ℕ → List ℕ → ℕ
+offerRefusal r s q =
+    cond (brokenRecord r) 2
+    (cond (not (eqb (length q) queueSize)) 3
+    (cond (wrongQueue (nodeOf r []) (r .held) q) 4
+    (cond (not (eqb (frameRefusal (r .n) (r .cap) s) 0)) (frameRefusal (r .n) (r .cap) s) (holdRefusal (nodeAt r q) (decode s)))))
+
+-- 3 of deliver: a lent buffer is too short, or the shelf's length is not 12,832
+abbrev pub wrongLengths : ℕ → ℕ → ℕ → Bool
+wrongLengths q out body = not (eqb q queueSize) || ltb out 2048 || ltb body maxBody
+
+-- deliver: 2 to 5, for outputs of these lengths
+unfoldable pub deliverRefusal : Record → List ℕ → ℕ → ℕ → ℕ
+deliverRefusal r q out body =
+    cond (brokenRecord r) 2 (cond (wrongLengths (length q) out body) 3 (cond (wrongQueue (nodeOf r []) (r .held) q) 4 (cond (atLimit (nodeAt r q)) 5 0)))
