@@ -1,24 +1,37 @@
 -- Offer by its refusal. Assumes nothing.
-use Prim.Native.Nat.{ℕ}
-use mathlib.Core.Bool.{Bool, cond, false, not, true}
-use mathlib.Core.List.{List, []}
+use Prim.Native.Nat.{_+_, _<_, _≤_, ℕ}
+use mathlib.Core.Bool.{Bool, _&&_, and-false, cond, false, not, true}
+use mathlib.Core.List.{List, [], _++_, _∷_}
 use mathlib.Core.Path.{_∙_, _≡_, refl, sym}
 use native.Mathlib.Decide.{ℕ-discrete}
+use native.Mathlib.Omega.{arith}
 use borrow.Author.Tests.{eq-eqb, ne-eqb}
-use lib.Dec.{eqb}
-use lib.ListN.{length}
+use lib.Dec.{eqb, eqb→eq}
+use lib.ListN.{length, length-append, length-map}
+use Rattle.arrival.specs.Tests.{ready}
+use Rattle.arrival.specs.View.{arrivalRefusal}
+use Rattle.frame.proofs.Passed.{passes-kept}
 use Rattle.frame.specs.Frame.{decode}
 use Rattle.frame.specs.Refusals.{frameRefusal}
+use Rattle.holdback.proofs.Held.{queue-kept}
+use Rattle.holdback.proofs.Slots.{length-held}
 use Rattle.holdback.specs.Check.{wrongQueue}
-use Rattle.holdback.specs.Slots.{queueSize}
-use Rattle.node.specs.Answers.{AfterOffer}
+use Rattle.holdback.specs.Checked.{CheckedQueue}
+use Rattle.holdback.specs.Slots.{heldFrames, heldMessages, laid, queueSize}
+use Rattle.matrix.specs.Array.{entry, vector}
+use Rattle.matrix.specs.Message.{Message}
+use Rattle.node.specs.Answers.{AfterOffer, afterOffer}
 use Rattle.node.specs.Calls.{acceptOffer, offerCall, refusal, refuseOffer}
-use Rattle.node.specs.Checks.{holdRefusal, nodeAt, offerRefusal}
+use Rattle.node.specs.Checks.{holdRefusal, nodeAt, offerRefusal, recordRefusal}
 use Rattle.node.specs.Record.{brokenRecord, nodeOf}
 use Rattle.protocol.specs.Answer.{Outcome, accepted, refuse}
 use Rattle.protocol.specs.Node.{Node}
-use Rattle.protocol.specs.Offer.{claimsTooMuch, deliveredBefore, heldAlready, holding, noRoom, notForMe, offer}
+use Rattle.protocol.specs.Offer.{claimsTooMuch, deliverable, deliveredBefore, heldAlready, holding, noRoom, notForMe, offer}
+use Rattle.rules.proofs.Facts.{Unbroken, unbroken}
+use Rattle.wire.proofs.Tests.{is-false, neqb→ne, not-not, or-not, skipped}
+use Rattle.wire.specs.Limits.{maxFrame}
 use Rattle.node.specs.declared.Node.{Node as Record}
+use Rattle.node.specs.declared.OfferAnswer.the-variants as offerAnswer
 
 -- the checks in rising order give the refusal, and none of them an accepted offer
 module _ (r : Record) (s q : List ℕ) (d : Node) (o : Outcome) (a : accepted (o .answer) ≡ true) where
@@ -71,3 +84,145 @@ offer-refused r s q k e h = sym (offer-by-refusal r s q ∙ rw (← e, ne-eqb k 
 
 pub offer-accepted : (r : Record) (s q : List ℕ) → offerRefusal r s q ≡ 0 → acceptOffer r s q (holding (nodeAt r q) (decode s)) ≡ offerCall r s q
 offer-accepted r s q e = sym (offer-by-refusal r s q ∙ rw e)
+
+-- the checks of an offer on record and queue, one after the other
+module _ (r : Record) (q : List ℕ) where
+  pub record-2 : brokenRecord r ≡ true → recordRefusal r q ≡ 2
+  unfolding recordRefusal
+  record-2 a = rw a
+
+  pub record-3 : brokenRecord r ≡ false → (length q ≡ 12832 → ⊥) → recordRefusal r q ≡ 3
+  unfolding recordRefusal
+  record-3 a b = rw (a, ne-eqb (length q) 12832 b)
+
+  pub record-4 : brokenRecord r ≡ false → length q ≡ 12832 → wrongQueue (nodeOf r []) (r .held) q ≡ true → recordRefusal r q ≡ 4
+  unfolding recordRefusal
+  record-4 a b c = rw (a, eq-eqb (length q) 12832 b, c)
+
+  pub record-0 : brokenRecord r ≡ false → length q ≡ 12832 → wrongQueue (nodeOf r []) (r .held) q ≡ false → recordRefusal r q ≡ 0
+  unfolding recordRefusal
+  record-0 a b c = rw (a, eq-eqb (length q) 12832 b, c)
+
+-- what passing them tells
+pub record RecordPassed (r : Record) (q : List ℕ) : Type 0 where
+  pub sound : Unbroken (r .me) (r .n) (r .cap) (entry (r .m)) (vector (r .deliv)) (r .held)
+  pub size : length q ≡ 12832
+  pub keeps : brokenRecord r ≡ false
+  pub queue : wrongQueue (nodeOf r []) (r .held) q ≡ false
+
+pub record-passed : (r : Record) (q : List ℕ) → recordRefusal r q ≡ 0 → RecordPassed r q
+unfolding recordRefusal brokenRecord
+record-passed r q e =
+    let p = skipped (brokenRecord r) 2 _ (omega arith) e in
+    let s = skipped (not (eqb (length q) 12832)) 3 _ (omega arith) (p .1) in
+    let t = skipped (wrongQueue (nodeOf r []) (r .held) q) 4 0 (omega arith) (s .1) in
+    record {
+      sound = unbroken (r .me) (r .n) (r .cap) (r .m) (vector (r .deliv)) (r .held) (is-false (brokenRecord r) (p .0));
+      size = eqb→eq (length q) 12832 (not-not (eqb (length q) 12832) (s .0));
+      keeps = is-false (brokenRecord r) (p .0);
+      queue = is-false (wrongQueue (nodeOf r []) (r .held) q) (t .0);
+    }
+
+pub checked-queue : (r : Record) (q : List ℕ) → RecordPassed r q → CheckedQueue (r .held) q
+checked-queue r q p = record { node = nodeOf r []; few = p .sound .range .atMost12; most = p .sound .room; size = p .size; passes = p .queue }
+
+-- the first of three checks with these numbers that is met, and x where none is
+abbrev pub firstOf : (i j k : ℕ) (a b c : Bool) → ℕ → ℕ
+firstOf i j k a b c x = cond a i (cond b j (cond c k x))
+
+first-met : (i j k x : ℕ) (a b c : Bool) → (firstOf i j k a b c 0 ≡ 0 → ⊥) → firstOf i j k a b c 0 ≡ firstOf i j k a b c x
+first-met i j k x true b c h = refl
+first-met i j k x false true c h = refl
+first-met i j k x false false true h = refl
+first-met i j k x false false false h = absurd (h refl)
+
+first-none : (i j k x : ℕ) (a b c : Bool) → (i ≡ 0 → ⊥) → (j ≡ 0 → ⊥) → (k ≡ 0 → ⊥) → firstOf i j k a b c 0 ≡ 0 → firstOf i j k a b c x ≡ x
+first-none i j k x true b c p q r e = absurd (p e)
+first-none i j k x false true c p q r e = absurd (q e)
+first-none i j k x false false true p q r e = absurd (r e)
+first-none i j k x false false false p q r e = refl
+
+-- a check of the record, of the frame, and of the protocol gives the refusal of the offer
+pub offer-record : (r : Record) (s q : List ℕ) (k : ℕ) → k ≡ recordRefusal r q → (k ≡ 0 → ⊥) → k ≡ offerRefusal r s q
+unfolding recordRefusal offerRefusal
+offer-record r s q k e h =
+    e ∙ first-met 2 3 4 (cond (not (eqb (frameRefusal (r .n) (r .cap) s) 0)) (frameRefusal (r .n) (r .cap) s) (holdRefusal (nodeAt r q) (decode s))) (brokenRecord r) (not (eqb (length q) 12832)) (wrongQueue (nodeOf r []) (r .held) q) (λ z. h (e ∙ z))
+
+pub offer-frame : (r : Record) (s q : List ℕ) → RecordPassed r q → (k : ℕ) → k ≡ frameRefusal (r .n) (r .cap) s → (k ≡ 0 → ⊥) → k ≡ offerRefusal r s q
+unfolding offerRefusal
+offer-frame r s q p k e h =
+    rw (p .keeps, eq-eqb (length q) 12832 (p .size), p .queue, ← e, ne-eqb k 0 h)
+
+pub offer-hold : (r : Record) (s q : List ℕ) → RecordPassed r q → frameRefusal (r .n) (r .cap) s ≡ 0 → offerRefusal r s q ≡ holdRefusal (nodeAt r q) (decode s)
+unfolding offerRefusal
+offer-hold r s q p e = rw (p .keeps, eq-eqb (length q) 12832 (p .size), p .queue, e)
+
+-- the protocol's checks of an offer, one after the other
+module _ (d : Node) (m : Message) where
+  pub hold-arrival : (k : ℕ) → k ≡ arrivalRefusal d m → (k ≡ 0 → ⊥) → k ≡ holdRefusal d m
+  unfolding arrivalRefusal holdRefusal
+  hold-arrival k e h = e ∙ first-met 12 13 14 (cond (heldAlready d m) 15 (cond (noRoom d m) 16 0)) (notForMe d m) (claimsTooMuch d m) (deliveredBefore d m) (λ z. h (e ∙ z))
+
+  pub hold-left : arrivalRefusal d m ≡ 0 → holdRefusal d m ≡ cond (heldAlready d m) 15 (cond (noRoom d m) 16 0)
+  unfolding arrivalRefusal holdRefusal
+  hold-left e =
+      first-none 12 13 14 (cond (heldAlready d m) 15 (cond (noRoom d m) 16 0)) (notForMe d m) (claimsTooMuch d m) (deliveredBefore d m) (λ z. omega arith) (λ z. omega arith) (λ z. omega arith) e
+
+  pub hold-15 : arrivalRefusal d m ≡ 0 → heldAlready d m ≡ true → holdRefusal d m ≡ 15
+  hold-15 e a = hold-left e ∙ rw a
+
+  pub hold-full : arrivalRefusal d m ≡ 0 → heldAlready d m ≡ false → length (d .held) ≡ 16 → holdRefusal d m ≡ 16
+  hold-full e a l = hold-left e ∙ rw (a, eq-eqb (length (d .held)) 16 l)
+
+  pub hold-waits : arrivalRefusal d m ≡ 0 → heldAlready d m ≡ false → length (d .held) ≡ 15 → deliverable d m ≡ false → holdRefusal d m ≡ 16
+  hold-waits e a l w = hold-left e ∙ rw (a, l, w)
+
+  pub hold-room : arrivalRefusal d m ≡ 0 → heldAlready d m ≡ false → (length (d .held) ≡ 16 → ⊥) → (length (d .held) ≡ 15 → ⊥) → holdRefusal d m ≡ 0
+  hold-room e a l k = hold-left e ∙ rw (a, ne-eqb (length (d .held)) 16 l, ne-eqb (length (d .held)) 15 k)
+
+  pub hold-ready : arrivalRefusal d m ≡ 0 → heldAlready d m ≡ false → (length (d .held) ≡ 16 → ⊥) → deliverable d m ≡ true → holdRefusal d m ≡ 0
+  hold-ready e a l w = hold-left e ∙ rw (a, ne-eqb (length (d .held)) 16 l, w) (rw (and-false (eqb (length (d .held)) 15)))
+
+-- as many messages are read from the queue as are held
+pub length-messages : (k : ℕ) (q : List ℕ) → length (heldMessages k q) ≡ k
+length-messages k q = length-map (heldFrames k q) decode ∙ length-held k q
+
+-- what an accepted offer leaves
+pub offer-leaves : (r : Record) (s q q′ : List ℕ) (ready : Bool) (held : ℕ) → q′ ≡ laid (heldFrames (r .held) q ++ (s ∷ [])) → ready ≡ deliverable (nodeAt r q) (decode s) → held ≡ r .held + 1
+    → afterOffer (record { answer = offerAnswer.Held held ready; node = record { me = r .me; n = r .n; cap = r .cap; m = r .m; deliv = r .deliv; held = held } }) q′
+    ≡ acceptOffer r s q (holding (nodeAt r q) (decode s))
+offer-leaves r s q q′ ready held p w e =
+    let more : held ≡ length (heldMessages (r .held) q ++ (decode s ∷ [])) = omega (arith, length-append (heldMessages (r .held) q) (decode s ∷ []), length-messages (r .held) q) in
+    λ z. record { result = record { answer = offerAnswer.Held (more z) (w z); node = record { me = r .me; n = r .n; cap = r .cap; m = r .m; deliv = r .deliv; held = more z } }; queue = p z }
+
+-- fewer than sixteen are held where the protocol has room
+pub hold-space : (d : Node) (m : Message) → holdRefusal d m ≡ 0 → length (d .held) ≤ 16 → length (d .held) < 16
+unfolding holdRefusal
+hold-space d m e h = go (ℕ-discrete (length (d .held)) 16)
+  where
+    go : Dec (length (d .held) ≡ 16) → length (d .held) < 16
+    go (no n) = omega arith
+    go (yes p) =
+        let a = skipped (notForMe d m) 12 _ (omega arith) e in
+        let b = skipped (claimsTooMuch d m) 13 _ (omega arith) (a .1) in
+        let c = skipped (deliveredBefore d m) 14 _ (omega arith) (b .1) in
+        let f = skipped (heldAlready d m) 15 _ (omega arith) (c .1) in
+        let g = skipped (noRoom d m) 16 0 (omega arith) (f .1) in
+        let k = or-not (eqb (length (d .held)) 16) (eqb (length (d .held)) 15 && not (deliverable d m)) (g .0) in
+        absurd (neqb→ne (length (d .held)) 16 (k .0) p)
+
+-- what holds where an offer is accepted
+pub record Holdable (r : Record) (s q : List ℕ) : Type 0 where
+  pub room : r .held < 16
+  pub fits : length s ≤ maxFrame
+  pub queue : q ≡ laid (heldFrames (r .held) q)
+  pub size : length q ≡ 12832
+
+pub holdable : (r : Record) (s q : List ℕ) → RecordPassed r q → frameRefusal (r .n) (r .cap) s ≡ 0 → holdRefusal (nodeAt r q) (decode s) ≡ 0 → Holdable r s q
+holdable r s q p f h =
+    record {
+      room = omega (arith, length-messages (r .held) q, hold-space (nodeAt r q) (decode s) h (rw (length-messages (r .held) q) (p .sound .room)));
+      fits = (passes-kept (r .n) (r .cap) s f) .most;
+      queue = (queue-kept (nodeOf r []) (r .held) q (p .queue)) .queue;
+      size = p .size;
+    }

@@ -29,6 +29,10 @@ nodeAt r q = nodeOf r (heldMessages (r .held) q)
 unfoldable pub holdRefusal : Node → Message → ℕ
 holdRefusal d m = cond (notForMe d m) 12 (cond (claimsTooMuch d m) 13 (cond (deliveredBefore d m) 14 (cond (heldAlready d m) 15 (cond (noRoom d m) 16 0))))
 
+-- the checks of an offer on record and queue alone: 2 to 4
+unfoldable pub recordRefusal : Record → List ℕ → ℕ
+recordRefusal r q = cond (brokenRecord r) 2 (cond (not (eqb (length q) queueSize)) 3 (cond (wrongQueue (nodeOf r []) (r .held) q) 4 0))
+
 -- offer: 2 to 4, 8 to 11, 12 to 16
 unfoldable pub offerRefusal : Record → List ℕ → List ℕ → ℕ
 offerRefusal r s q =

@@ -1,0 +1,126 @@
+//! Offer.
+use super::Node;
+use super::OfferAnswer;
+use super::Offered;
+ghost use mathlib.Core.Path.{_≡_};
+ghost use Prim.Native.Nat.{ℕ};
+ghost use lib.ListN.{length};
+ghost use Rattle.frame.specs.Frame.{decode};
+ghost use Rattle.protocol.specs.Node.{Node as State};
+ghost use Rattle.protocol.specs.Offer.{deliverable};
+ghost use Rattle.holdback.specs.Slots.{heldMessages};
+ghost use Rattle.holdback.specs.Checked.{CheckedQueue};
+ghost use Rattle.arrival.specs.View.{nodeWith};
+ghost use Rattle.arrival.specs.Checked.{Checked};
+ghost use Rattle.node.specs.Answers.{afterOffer};
+ghost use Rattle.node.specs.Calls.{offerCall};
+ghost use Rattle.node.specs.Checks.{holdRefusal, recordRefusal};
+
+// The refusals of an offer that look at record and queue alone: 2 to 4, and 0 where none is met.
+fn record_refusal<'a>(
+    me: u8,
+    n: u8,
+    cap: u8,
+    m: &'a [u32; 144],
+    deliv: &'a [u32; 12],
+    held: u8,
+    queue: &[u8],
+) -> u8
+    requires { ⌜ (length (now m) ≡ 144) × (length (now deliv) ≡ 12) ⌝ }
+    ensures { λ r. ⌜ r ≡ recordRefusal (record { me = me; n = n; cap = cap; m = now (m .entry); deliv = now (deliv .entry); held = held }) (now (queue .entry)) ⌝ }
+{
+    if rules::broken(me, n, cap, m, deliv, held) {
+        return 2;
+    }
+    if queue.len() != 12832 {
+        return 3;
+    }
+    if holdback::wrong_queue(queue, held as usize, me, n, cap, m, deliv) {
+        return 4;
+    }
+    0
+}
+
+/// A refusal's number, or 0, and whether the frame is deliverable now where no earlier check is met.
+struct Verdict {
+    why: u8,
+    ready: bool,
+}
+
+// The refusals 12 to 16 of a sound frame at a node whose queue has passed check 4.
+fn hold_refusal<'a>(
+    me: u8,
+    m: &'a [u32; 144],
+    deliv: &'a [u32; 12],
+    held: u8,
+    queue: &[u8],
+    frame: &[u8],
+) -> Verdict
+    requires { ⌜ CheckedQueue held (now queue) × Checked (now frame) ⌝ }
+    ensures { λ r. ⌜ ((n cap : ℕ) → (let d : State = nodeWith me n cap (now (m .entry)) (now (deliv .entry)) (heldMessages held (now (queue .entry))) in (r .why ≡ holdRefusal d (decode (now (frame .entry)))) × (r .why ≡ 0 → r .ready ≡ deliverable d (decode (now (frame .entry)))))) ⌝ }
+{
+    let why = arrival::refusal(frame, me, m, deliv);
+    if why != 0 {
+        return Verdict { why, ready: false };
+    }
+    if holdback::alike(queue, held as usize, frame) {
+        return Verdict {
+            why: 15,
+            ready: false,
+        };
+    }
+    let ready = arrival::deliverable(frame, me, deliv);
+    if held == 16 {
+        return Verdict { why: 16, ready };
+    }
+    if held != 15 {
+        return Verdict { why: 0, ready };
+    }
+    if ready {
+        return Verdict { why: 0, ready };
+    }
+    Verdict { why: 16, ready }
+}
+
+impl Node {
+    /// Offers a frame: it is checked and held.
+    pub fn offer(self, frame: &[u8], queue: &mut [u8]) -> Offered
+        ensures { λ r. ⌜ afterOffer r (now (queue .exit)) ≡ offerCall self (now (frame .entry)) (now (queue .entry)) ⌝ }
+    {
+        let me = self.me;
+        let n = self.n;
+        let cap = self.cap;
+        let held = self.held;
+        let why = record_refusal(me, n, cap, &self.m, &self.deliv, held, queue);
+        if why != 0 {
+            return Offered {
+                answer: OfferAnswer::Refused(why),
+                node: self,
+            };
+        }
+        let bad = frame::check::refusal(frame, n, cap);
+        if bad != 0 {
+            return Offered {
+                answer: OfferAnswer::Refused(bad),
+                node: self,
+            };
+        }
+        let v = hold_refusal(me, &self.m, &self.deliv, held, queue, frame);
+        if v.why != 0 {
+            return Offered {
+                answer: OfferAnswer::Refused(v.why),
+                node: self,
+            };
+        }
+        holdback::hold(queue, held as usize, frame);
+        let mut next = self;
+        next.held = held + 1;
+        Offered {
+            answer: OfferAnswer::Held {
+                count: held as usize + 1,
+                ready: v.ready,
+            },
+            node: next,
+        }
+    }
+}
