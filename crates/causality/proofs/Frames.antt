@@ -7,7 +7,7 @@ use native.Mathlib.Omega.{arith}
 use lib.Dec.{leb}
 use lib.ListN.{getElem?, length, length-append, take}
 use lib.Seq.{drop-at, take-at}
-use Rattle.causality.proofs.Slots.{header-append, own-least}
+use Rattle.holdback.proofs.Slots.{header-append, own-least}
 use Rattle.causality.specs.Demand3.{cutFor, framesIn}
 use Rattle.frame.proofs.EntryLists.{length-entriesOf}
 use Rattle.frame.proofs.Written.{header-encode, length-encode}

@@ -1,5 +1,4 @@
 -- The proof of demand 3 on records and bytes.
-pub mod Slots
 pub mod Frames
 pub mod Records
 pub mod Queues

@@ -11,7 +11,7 @@ use lib.ListN.{getElem?, length, length-map}
 use Rattle.arrival.specs.View.{arrivalRefusal}
 use Rattle.causality.proofs.Frames.{own-encode}
 use Rattle.causality.proofs.Records.{T-not-not, alone}
-use Rattle.causality.proofs.Slots.{EachFramed, framed-fits, held-slots, length-slots}
+use Rattle.holdback.proofs.Slots.{EachFramed, framed-fits, held-slots, length-slots}
 use Rattle.frame.proofs.Written.{decode-encode, encode-most, encode-sound}
 use Rattle.frame.specs.Frame.{decode, encode}
 use Rattle.frame.specs.Refusals.{frameRefusal}

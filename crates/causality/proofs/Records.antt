@@ -9,12 +9,12 @@ use native.Mathlib.Nat.{zero-add}
 use native.Mathlib.Omega.{arith}
 use lib.Dec.{T, eqb, leb, le→leb, ltb, lt→ltb}
 use lib.ListN.{List·getD-eq-default, getD, length}
-use Rattle.arrival.specs.View.{vector}
 use Rattle.matrix.proofs.Array.{entry-back, getD-list, length-list}
-use Rattle.matrix.specs.Array.{entry, flat, listFrom}
+use Rattle.matrix.specs.Array.{entry, flat, listFrom, vector}
 use Rattle.matrix.specs.Matrix.{Matrix, count}
 use Rattle.matrix.specs.Message.{InRange, Message}
-use Rattle.node.specs.Record.{brokenRecord, inRange, nodeOf, recordOf, withinLimit, zeroColumn, zeroDiagonal, zeroFrom}
+use Rattle.node.specs.Record.{brokenRecord, nodeOf, recordOf}
+use Rattle.rules.specs.Rules.{brokenRules, inRange, withinLimit, zeroColumn, zeroDiagonal, zeroFrom}
 use Rattle.protocol.proofs.Below.{all-each}
 use Rattle.protocol.proofs.Bounds.{matrix-bound, row-below}
 use Rattle.protocol.proofs.Good.{Good, SoundNode, stateOf}
@@ -125,7 +125,7 @@ module _ (n cap : ℕ) (w : messages.World) (g : Good n (λ i. cap) w) (few : le
 
   -- check 2 is not met
   pub record-kept : T (not (brokenRecord (recordOf (nodeAt n (λ k. cap) w i))))
-  unfolding brokenRecord
+  unfolding brokenRecord brokenRules
   record-kept =
       subst (λ (v : ℕ → ℕ). T (not (not (rules i n cap k (entry (flat M)) v)))) (sym vector-back)
       (subst (λ (m : Matrix). T (not (not (rules i n cap k m D)))) (sym matrix-back) (T-not-not (rules i n cap k M D) kept))

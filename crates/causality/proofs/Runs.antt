@@ -15,7 +15,8 @@ use Rattle.holdback.specs.Slots.{laid, queueSize, slots, zeros}
 use Rattle.matrix.specs.Array.{flat}
 use Rattle.matrix.specs.Message.{InRange}
 use Rattle.node.specs.Calls.{deliverCall, sendCall}
-use Rattle.node.specs.Record.{inRange, recordOf}
+use Rattle.node.specs.Record.{recordOf}
+use Rattle.rules.specs.Rules.{inRange}
 use Rattle.node.specs.SetUp.{freshRecord, setUp}
 use Rattle.node.specs.declared.SetUp.{SetUp}
 use Rattle.protocol.proofs.Good.{Good}
