@@ -2,3 +2,4 @@
 pub mod Sending
 pub mod Offering
 pub mod Delivering
+pub mod Taking

@@ -1,0 +1,169 @@
+//! Deliver.
+use super::DeliverAnswer;
+use super::Delivered;
+use super::Delivery;
+use super::Node;
+use trim::Issued;
+ghost use mathlib.Core.Path.{_≡_};
+ghost use mathlib.Core.List.{List, []};
+ghost use Prim.Native.Nat.{ℕ, _≤_, _<_};
+ghost use lib.ListN.{length};
+ghost use Rattle.wire.specs.Bytes.{put};
+ghost use Rattle.wire.specs.Limits.{maxBody, maxCount};
+ghost use Rattle.matrix.specs.Array.{listFrom, flat, entry, vector};
+ghost use Rattle.matrix.specs.Message.{Message, number};
+ghost use Rattle.frame.specs.Header.{kindByte, kindOf};
+ghost use Rattle.frame.specs.Frame.{decode};
+ghost use Rattle.frame.specs.Frames.{framesOf};
+ghost use Rattle.protocol.specs.Trim.{Trimmed};
+ghost use Rattle.protocol.specs.Deliver.{countUp, learn};
+ghost use Rattle.arrival.specs.Checked.{Checked};
+ghost use Rattle.arrival.specs.View.{nodeWith};
+ghost use Rattle.node.specs.declared.Node.{Node as Record};
+ghost use Rattle.node.specs.Answers.{afterDeliver};
+ghost use Rattle.node.specs.Calls.{deliverCall};
+ghost use Rattle.node.specs.Checks.{deliverRefusal};
+
+// The refusal of a deliver: the first check that is met, and 0 where none is.
+fn refusal<'a>(
+    me: u8,
+    n: u8,
+    cap: u8,
+    m: &'a [u32; 144],
+    deliv: &'a [u32; 12],
+    held: u8,
+    q: &[u8],
+    out: usize,
+    body: usize,
+) -> u8
+    requires { ⌜ (length (now m) ≡ 144) × (length (now deliv) ≡ 12) ⌝ }
+    ensures { λ r. ⌜ r ≡ deliverRefusal (record { me = me; n = n; cap = cap; m = now (m .entry); deliv = now (deliv .entry); held = held }) (now (q .entry)) out body ⌝ }
+{
+    if rules::broken(me, n, cap, m, deliv, held) {
+        return 2;
+    }
+    if q.len() != 12832 {
+        return 3;
+    }
+    if out < 2048 {
+        return 3;
+    }
+    if body < wire::MAX_BODY {
+        return 3;
+    }
+    if holdback::wrong_queue(q, held as usize, me, n, cap, m, deliv) {
+        return 4;
+    }
+    if rules::at_limit(me as usize, m, deliv) {
+        return 5;
+    }
+    0
+}
+
+// Takes in the entries of a delivered frame: those of a user frame are merged and the matrix is trimmed; an extra frame changes nothing.
+fn learn(m: &mut [u32; 144], out: &mut [u8], s: &[u8], kind: u8, me: u8, n: u8, cap: u8) -> Issued
+    requires { ⌜ (length (now m) ≡ 144) × Checked (now s) × (me < 12) × (1008 ≤ length (now out)) × ((x y : ℕ) → entry (now m) x y ≤ maxCount) ⌝ }
+    ensures { λ r. ⌜ (let t : Trimmed = learn (kindOf kind) (nodeWith me n cap (now (m .entry)) [] []) (decode (now (s .entry)) .entries) in (now (m .exit) ≡ flat (t .matrix)) × (now (out .exit) ≡ put (now (out .entry)) 0 (framesOf (t .extras))) × (r .at ≡ length (framesOf (t .extras))) × (r .extras ≡ length (t .extras))) ⌝ }
+{
+    if kind != 1 {
+        return Issued { at: 0, extras: 0 };
+    }
+    arrival::merge(m, s, me);
+    trim::trim(m, out, 0, me, n, cap)
+}
+
+// One more frame of node `from` is delivered.
+fn count_up(deliv: &mut [u32; 12], from: usize)
+    requires { ⌜ (length (now deliv) ≡ 12) × (from < 12) × (vector (now deliv) from ≤ maxCount) ⌝ }
+    ensures { λ _. ⌜ now (deliv .exit) ≡ listFrom 0 12 (countUp from (vector (now (deliv .entry)))) ⌝ }
+{
+    deliv[from] = deliv[from] + 1;
+}
+
+// Delivers the sound frame s: writes its body, takes in its entries, and tells what the answer says of it.
+fn take_in(
+    s: &[u8],
+    tried: usize,
+    m: &mut [u32; 144],
+    out: &mut [u8],
+    body: &mut [u8],
+    me: u8,
+    n: u8,
+    cap: u8,
+) -> Delivered
+    requires { ⌜ (length (now m) ≡ 144) × Checked (now s) × (me < 12) × (1008 ≤ length (now out)) × ((x y : ℕ) → entry (now m) x y ≤ maxCount) × (maxBody ≤ length (now body)) ⌝ }
+    ensures { λ r. ⌜ (let g : Message = decode (now (s .entry)) in let t : Trimmed = learn (g .kind) (nodeWith me n cap (now (m .entry)) [] []) (g .entries) in (r ≡ record { kind = kindByte (g .kind); from = g .from; number = number g; tried = tried; body = length (g .body); bytes = length (framesOf (t .extras)); extras = length (t .extras) }) × (now (m .exit) ≡ flat (t .matrix)) × (now (out .exit) ≡ put (now (out .entry)) 0 (framesOf (t .extras))) × (now (body .exit) ≡ put (now (body .entry)) 0 (g .body))) ⌝ }
+{
+    let h = frame::header::read(s);
+    let a = 8 + 6 * (h.e as usize);
+    let z = a + h.b as usize;
+    wire::copy(body, 0, &s[a..z]);
+    let t = learn(m, out, s, h.kind, me, n, cap);
+    let number = arrival::number(s);
+    Delivered {
+        kind: h.kind,
+        from: h.from,
+        number,
+        tried,
+        body: h.b as usize,
+        bytes: t.at,
+        extras: t.extras as usize,
+    }
+}
+
+impl Node {
+    /// Delivers the first held frame that is deliverable: takes it out of the queue, writes its body into `body` and trim's extra frames into `out`, and gives the new record.
+    pub fn deliver(self, queue: &mut [u8], out: &mut [u8], body: &mut [u8]) -> Delivery
+        ensures { λ r. ⌜ afterDeliver r (now (queue .exit)) (now (out .exit)) (now (body .exit)) ≡ deliverCall self (now (queue .entry)) (now (out .entry)) (now (body .entry)) ⌝ }
+    {
+        let me = self.me;
+        let n = self.n;
+        let cap = self.cap;
+        let held = self.held as usize;
+        let why = refusal(
+            me,
+            n,
+            cap,
+            &self.m,
+            &self.deliv,
+            self.held,
+            queue,
+            out.len(),
+            body.len(),
+        );
+        if why != 0 {
+            return Delivery {
+                answer: DeliverAnswer::Refused(why),
+                node: self,
+            };
+        }
+        let place = holdback::search(queue, held, me, &self.deliv);
+        if place == 0 {
+            return Delivery {
+                answer: DeliverAnswer::Nothing(held),
+                node: self,
+            };
+        }
+        let mut next = self;
+        let at = place - 1;
+        let start = wire::MAX_FRAME * at;
+        let end = holdback::frame_end(queue, at);
+        let d = take_in(
+            &queue[start..end],
+            place,
+            &mut next.m,
+            out,
+            body,
+            me,
+            n,
+            cap,
+        );
+        count_up(&mut next.deliv, d.from as usize);
+        holdback::remove(queue, held, at);
+        next.held = (held - 1) as u8;
+        Delivery {
+            answer: DeliverAnswer::Frame(d),
+            node: next,
+        }
+    }
+}

@@ -1,0 +1,187 @@
+-- Demand 1, from each call by its refusal. Assumes nothing.
+use Prim.Native.Nat.{ℕ}
+use mathlib.Core.Bool.{Bool, true, false, cond, not}
+use mathlib.Core.List.{List, [], _∷_}
+use mathlib.Core.Option.{Option, none, some}
+use mathlib.Core.Path.{_≡_, refl, sym, ap, _∙_}
+use native.Mathlib.Omega.{arith}
+use native.Mathlib.Decide.{ℕ-discrete}
+use borrow.Author.Tests.{ne-eqb}
+use lib.Dec.{eqb}
+use lib.ListN.{length}
+use Rattle.frame.specs.Frame.{decode}
+use Rattle.frame.specs.Header.{header}
+use Rattle.frame.specs.Refusals.{frameRefusal, wrongAddress, wrongContent, wrongKind, wrongTrailer}
+use Rattle.holdback.specs.Check.{wrongQueue}
+use Rattle.holdback.specs.Slots.{queueSize}
+use Rattle.node.proofs.Delivering.{concluded, deliver-by-refusal}
+use Rattle.node.proofs.Offering.{offer-by-refusal}
+use Rattle.node.proofs.Sending.{send-by-refusal}
+use Rattle.node.specs.Answers.{AfterDeliver, AfterOffer, AfterSend, deliverNumber, offerNumber, sendNumber, setUpNumber}
+use Rattle.node.specs.Calls.{acceptDeliver, acceptOffer, acceptSend, deliverCall, offerCall, refuseDeliver, refuseOffer, refuseSend, sendCall}
+use Rattle.node.specs.Checks.{deliverRefusal, holdRefusal, nodeAt, offerRefusal, sendRefusal}
+use Rattle.node.specs.Record.{brokenRecord, nodeOf}
+use Rattle.node.specs.SetUp.{freshRecord, setUp}
+use Rattle.protocol.specs.Answer.{Label, Outcome, delivery}
+use Rattle.protocol.specs.Node.{atLimit}
+use Rattle.protocol.specs.Offer.{holding}
+use Rattle.protocol.specs.Send.{sending}
+use Rattle.rules.specs.Rules.{inRange}
+use Rattle.refusals.proofs.First.{by-first}
+use Rattle.refusals.specs.Demand1.{DeliverSays, Demand1, OfferSays, SendSays, SetUpSays, deliverChecks, firstMet, offerChecks, sendChecks, setUpChecks}
+use Rattle.node.specs.declared.Node.{Node as Record}
+use Rattle.node.specs.declared.SetUp.{SetUp}
+use Rattle.node.specs.declared.SetUpAnswer.{SetUpAnswer}
+use Rattle.node.specs.declared.SendAnswer.{SendAnswer}
+use Rattle.node.specs.declared.OfferAnswer.{OfferAnswer}
+use Rattle.node.specs.declared.DeliverAnswer.{DeliverAnswer}
+use Rattle.node.specs.declared.SetUpAnswer.the-variants as setUpAnswer
+use Rattle.node.specs.declared.SendAnswer.the-variants as sendAnswer
+use Rattle.node.specs.declared.OfferAnswer.the-variants as offerAnswer
+use Rattle.node.specs.declared.DeliverAnswer.the-variants as deliverAnswer
+
+-- a part of a call that is refused by k, or accepted where k is 0
+part : {A C : Type 0} (f : C → A) (c : C) (k : ℕ) (x : C) (g : ℕ → C) → c ≡ cond (eqb k 0) x (g k) → f c ≡ cond (eqb k 0) (f x) (f (g k))
+part {A} {C} f c k x g e = go (ℕ-discrete k 0)
+  where
+    go : Dec (k ≡ 0) → f c ≡ cond (eqb k 0) (f x) (f (g k))
+    go (yes p) = ap f e ∙ rw p
+    go (no h) = ap f e ∙ rw (ne-eqb k 0 h)
+
+-- a call whose number is not 0 is refused
+refused : {C : Type 0} (f : C → ℕ) (c : C) (k : ℕ) (x : C) (g : ℕ → C) → c ≡ cond (eqb k 0) x (g k) → f x ≡ 0 → ¬ (f c ≡ 0) → c ≡ g k
+refused {C} f c k x g e z h = go (ℕ-discrete k 0)
+  where
+    go : Dec (k ≡ 0) → c ≡ g k
+    go (yes p) = absurd (h (ap f (e ∙ rw p) ∙ z))
+    go (no q) = e ∙ rw (ne-eqb k 0 q)
+
+-- ---- set-up
+ready-not : (k : ℕ) → ¬ (setUpAnswer.Ready ≡ setUpAnswer.Refused k)
+ready-not k e = let z : _≡_ {A = ℕ} 0 1 = cc in absurd (omega arith)
+
+-- set-up by its check
+abbrev refuseSetUp : ℕ → SetUp
+refuseSetUp k = record { answer = setUpAnswer.Refused k; node = freshRecord 0 0 0 }
+
+abbrev acceptSetUp : ℕ → ℕ → ℕ → SetUp
+acceptSetUp me n cap = record { answer = setUpAnswer.Ready; node = freshRecord me n cap }
+
+set-up-by : (me n cap : ℕ) → setUp me n cap ≡ cond (eqb (firstMet (setUpChecks me n cap)) 0) (acceptSetUp me n cap) (refuseSetUp (firstMet (setUpChecks me n cap)))
+unfolding setUp
+set-up-by me n cap = go (inRange me n cap)
+  where
+    go : (b : Bool) → cond b (acceptSetUp me n cap) (refuseSetUp 1) ≡ cond (eqb (cond (not b) 1 0) 0) (acceptSetUp me n cap) (refuseSetUp (cond (not b) 1 0))
+    go true = refl
+    go false = refl
+
+set-up-says : (me n cap : ℕ) → SetUpSays me n cap (setUp me n cap)
+set-up-says me n cap =
+    let l = setUpChecks me n cap in
+    let c = setUp me n cap in
+    record {
+      numbers = refl;
+      answers = by-first setUpAnswer.Refused setUpNumber l setUpAnswer.Ready (c .answer) (omega arith, tt) (part (λ (s : SetUp). s .answer) c (firstMet l) (acceptSetUp me n cap) refuseSetUp (set-up-by me n cap)) (λ k. refl) refl ready-not;
+      allZero = λ h. ap (λ (s : SetUp). s .node) (refused (λ (s : SetUp). setUpNumber (s .answer)) c (firstMet l) (acceptSetUp me n cap) refuseSetUp (set-up-by me n cap) refl h);
+    }
+
+-- ---- send
+sent-not : (bytes extras k : ℕ) → ¬ (sendAnswer.Sent bytes extras ≡ sendAnswer.Refused k)
+sent-not bytes extras k e = let z : _≡_ {A = ℕ} 0 1 = cc in absurd (omega arith)
+
+send-by : (r : Record) (to : ℕ) (body out : List ℕ)
+    → sendCall r to body out ≡ cond (eqb (firstMet (sendChecks r to body out)) 0) (acceptSend r out (sending (nodeOf r []) to body)) (refuseSend (firstMet (sendChecks r to body out)) r out)
+unfolding sendRefusal
+send-by r to body out = send-by-refusal r to body out
+
+send-says : (r : Record) (to : ℕ) (body out : List ℕ) → SendSays r to body out (sendCall r to body out)
+send-says r to body out =
+    let l = sendChecks r to body out in
+    let c = sendCall r to body out in
+    let x = acceptSend r out (sending (nodeOf r []) to body) in
+    let g : ℕ → AfterSend = λ k. refuseSend k r out in
+    let left : ¬ (sendNumber (c .result .answer) ≡ 0) → c ≡ g (firstMet l) = refused (λ (s : AfterSend). sendNumber (s .result .answer)) c (firstMet l) x g (send-by r to body out) refl in
+    record {
+      numbers = refl;
+      answers =
+          by-first sendAnswer.Refused sendNumber l (x .result .answer) (c .result .answer) (omega arith, (omega arith, (omega arith, (omega arith, (omega arith, tt)))))
+          (part (λ (s : AfterSend). s .result .answer) c (firstMet l) x g (send-by r to body out)) (λ k. refl) refl (sent-not _ _);
+      same = λ h. (ap (λ (s : AfterSend). s .result .node) (left h), ap (λ (s : AfterSend). s .out) (left h));
+    }
+
+-- ---- offer
+held-not : (count : ℕ) (ready : Bool) (k : ℕ) → ¬ (offerAnswer.Held count ready ≡ offerAnswer.Refused k)
+held-not count ready k e = let z : _≡_ {A = ℕ} 0 1 = cc in absurd (omega arith)
+
+-- 8 to 11 one after the other
+frame-checks : (t₈ t₉ t₁₀ t₁₁ : Bool) (x : ℕ) → let f : ℕ = cond t₈ 8 (cond t₉ 9 (cond t₁₀ 10 (cond t₁₁ 11 0))) in cond (not (eqb f 0)) f x ≡ cond t₈ 8 (cond t₉ 9 (cond t₁₀ 10 (cond t₁₁ 11 x)))
+frame-checks true t₉ t₁₀ t₁₁ x = refl
+frame-checks false true t₁₀ t₁₁ x = refl
+frame-checks false false true t₁₁ x = refl
+frame-checks false false false true x = refl
+frame-checks false false false false x = refl
+
+offer-first : (r : Record) (s q : List ℕ) → offerRefusal r s q ≡ firstMet (offerChecks r s q)
+unfolding offerRefusal frameRefusal holdRefusal
+offer-first r s q =
+    ap (λ (k : ℕ). cond (brokenRecord r) 2 (cond (not (eqb (length q) queueSize)) 3 (cond (wrongQueue (nodeOf r []) (r .held) q) 4 k)))
+    (frame-checks (wrongTrailer s) (wrongKind (header s)) (wrongAddress (r .n) (r .cap) (header s)) (wrongContent (r .n) (r .cap) s) (holdRefusal (nodeAt r q) (decode s)))
+
+offer-by : (r : Record) (s q : List ℕ)
+    → offerCall r s q ≡ cond (eqb (firstMet (offerChecks r s q)) 0) (acceptOffer r s q (holding (nodeAt r q) (decode s))) (refuseOffer (firstMet (offerChecks r s q)) r q)
+offer-by r s q =
+    offer-by-refusal r s q
+    ∙ ap (λ (k : ℕ). cond (eqb k 0) (acceptOffer r s q (holding (nodeAt r q) (decode s))) (refuseOffer k r q)) (offer-first r s q)
+
+offer-says : (r : Record) (s q : List ℕ) → OfferSays r s q (offerCall r s q)
+offer-says r s q =
+    let l = offerChecks r s q in
+    let c = offerCall r s q in
+    let x = acceptOffer r s q (holding (nodeAt r q) (decode s)) in
+    let g : ℕ → AfterOffer = λ k. refuseOffer k r q in
+    let left : ¬ (offerNumber (c .result .answer) ≡ 0) → c ≡ g (firstMet l) = refused (λ (a : AfterOffer). offerNumber (a .result .answer)) c (firstMet l) x g (offer-by r s q) refl in
+    record {
+      numbers = refl;
+      answers =
+          by-first offerAnswer.Refused offerNumber l (x .result .answer) (c .result .answer)
+          (omega arith, (omega arith, (omega arith, (omega arith, (omega arith, (omega arith, (omega arith, (omega arith, (omega arith, (omega arith, (omega arith, (omega arith, tt))))))))))))
+          (part (λ (a : AfterOffer). a .result .answer) c (firstMet l) x g (offer-by r s q)) (λ k. refl) refl (held-not _ _);
+      same = λ h. (ap (λ (a : AfterOffer). a .result .node) (left h), ap (λ (a : AfterOffer). a .queue) (left h));
+    }
+
+-- ---- deliver
+
+-- a deliver that is accepted is no refusal
+accepted-number : (r : Record) (q out body : List ℕ) (o : Outcome) (d : Option Label) → deliverNumber (acceptDeliver r q out body o d .result .answer) ≡ 0
+accepted-number r q out body o none = refl
+accepted-number r q out body o (some a) = refl
+
+accepted-not : (r : Record) (q out body : List ℕ) (o : Outcome) (d : Option Label) (k : ℕ) → ¬ (acceptDeliver r q out body o d .result .answer ≡ deliverAnswer.Refused k)
+accepted-not r q out body o none k e = let z : _≡_ {A = ℕ} 0 1 = cc in absurd (omega arith)
+accepted-not r q out body o (some a) k e = let z : _≡_ {A = ℕ} 0 1 = cc in absurd (omega arith)
+
+deliver-by : (r : Record) (q out body : List ℕ)
+    → deliverCall r q out body
+    ≡ cond (eqb (firstMet (deliverChecks r q out body)) 0) (acceptDeliver r q out body (concluded r q) (delivery ((concluded r q) .answer))) (refuseDeliver (firstMet (deliverChecks r q out body)) r q out body)
+unfolding deliverRefusal atLimit
+deliver-by r q out body = deliver-by-refusal r q out body
+
+deliver-says : (r : Record) (q out body : List ℕ) → DeliverSays r q out body (deliverCall r q out body)
+deliver-says r q out body =
+    let l = deliverChecks r q out body in
+    let c = deliverCall r q out body in
+    let o = concluded r q in
+    let x = acceptDeliver r q out body o (delivery (o .answer)) in
+    let g : ℕ → AfterDeliver = λ k. refuseDeliver k r q out body in
+    let z = accepted-number r q out body o (delivery (o .answer)) in
+    let left : ¬ (deliverNumber (c .result .answer) ≡ 0) → c ≡ g (firstMet l) = refused (λ (a : AfterDeliver). deliverNumber (a .result .answer)) c (firstMet l) x g (deliver-by r q out body) z in
+    record {
+      numbers = refl;
+      answers =
+          by-first deliverAnswer.Refused deliverNumber l (x .result .answer) (c .result .answer) (omega arith, (omega arith, (omega arith, (omega arith, tt))))
+          (part (λ (a : AfterDeliver). a .result .answer) c (firstMet l) x g (deliver-by r q out body)) (λ k. refl) z (accepted-not r q out body o (delivery (o .answer)));
+      same = λ h. (ap (λ (a : AfterDeliver). a .result .node) (left h), ap (λ (a : AfterDeliver). a .queue) (left h), ap (λ (a : AfterDeliver). a .out) (left h), ap (λ (a : AfterDeliver). a .body) (left h));
+    }
+
+pub demand1 : Demand1
+demand1 = record { setUp = set-up-says; send = send-says; offer = offer-says; deliver = deliver-says }

@@ -1,0 +1,167 @@
+-- Demand 1: each call answers with the first of its checks that is met, in rising order, and a refusal leaves record and buffers as they were.
+-- The calls are `setUp`, `sendCall`, `offerCall` and `deliverCall`, the definitions that the promises of set-up, send, offer and deliver cite.
+use Prim.Native.Nat.{ℕ, _<_}
+use mathlib.Core.Bool.{Bool, true, cond, not, _||_}
+use mathlib.Core.List.{List, [], _∷_, map}
+use mathlib.Core.Logic.{_⊎_}
+use mathlib.Core.Path.{_≡_}
+use lib.Dec.{eqb, ltb}
+use lib.ListN.{length}
+use Rattle.wire.specs.Limits.{maxBody}
+use Rattle.rules.specs.Rules.{inRange}
+use Rattle.frame.specs.Header.{header}
+use Rattle.frame.specs.Frame.{decode}
+use Rattle.frame.specs.Refusals.{wrongAddress, wrongContent, wrongKind, wrongTrailer}
+use Rattle.protocol.specs.Node.{atLimit}
+use Rattle.protocol.specs.Send.{badDestination, longBody}
+use Rattle.protocol.specs.Offer.{claimsTooMuch, deliveredBefore, heldAlready, noRoom, notForMe}
+use Rattle.holdback.specs.Slots.{queueSize}
+use Rattle.holdback.specs.Check.{wrongQueue}
+use Rattle.node.specs.declared.Node.{Node as Record}
+use Rattle.node.specs.declared.SetUp.{SetUp}
+use Rattle.node.specs.declared.SetUpAnswer.the-variants as setUpAnswer
+use Rattle.node.specs.declared.SendAnswer.the-variants as sendAnswer
+use Rattle.node.specs.declared.OfferAnswer.the-variants as offerAnswer
+use Rattle.node.specs.declared.DeliverAnswer.the-variants as deliverAnswer
+use Rattle.node.specs.Record.{brokenRecord, nodeOf}
+use Rattle.node.specs.SetUp.{freshRecord, setUp}
+use Rattle.node.specs.Answers.{AfterDeliver, AfterOffer, AfterSend, deliverNumber, offerNumber, sendNumber, setUpNumber}
+use Rattle.node.specs.Calls.{deliverCall, offerCall, outSize, sendCall}
+use Rattle.node.specs.Checks.{nodeAt}
+
+-- ---- checks, and the first that is met
+
+-- a check: its number in document 01, and whether it is met
+pub record Check : Type 0 where
+  pub number : ℕ
+  pub met : Bool
+
+abbrev pub check : ℕ → Bool → Check
+check k b = record { number = k; met = b }
+
+-- the numbers of a list of checks
+abbrev pub numbers : List Check → List ℕ
+numbers l = map (λ (c : Check). c .number) l
+
+-- the number of the first check of a list that is met, and 0 where none is
+abbrev pub firstMet : List Check → ℕ
+firstMet [] = 0
+firstMet (c ∷ l) = cond (c .met) (c .number) (firstMet l)
+
+-- the check with number k stands in the list and is met
+abbrev pub Met : List Check → ℕ → Type 0
+Met [] k = ⊥
+Met (c ∷ l) k = ((c .number ≡ k) × (c .met ≡ true)) ⊎ Met l k
+
+-- none of the list is met
+abbrev pub NoneMet : List Check → Type 0
+NoneMet l = (k : ℕ) → ¬ Met l k
+
+-- check k is met, and none with a lower number is
+pub record First (l : List Check) (k : ℕ) : Type 0 where
+  pub met : Met l k
+  pub lower : (j : ℕ) → j < k → ¬ Met l j
+
+-- what an answer says by its number, for a list of checks: 0 exactly where none is met, and else the first that is met
+pub record Answers {A : Type 0} (refused : ℕ → A) (number : A → ℕ) (l : List Check) (answer : A) : Type 0 where
+  pub first : number answer ≡ firstMet l
+  pub given : (k : ℕ) → ¬ (k ≡ 0) → number answer ≡ k → First l k
+  pub gives : (k : ℕ) → First l k → number answer ≡ k
+  pub accepted : number answer ≡ 0 → NoneMet l
+  pub accepts : NoneMet l → number answer ≡ 0
+  -- and it is a refusal exactly where one is met
+  pub refusal : (k : ℕ) → answer ≡ refused k → First l k
+  pub refuses : (k : ℕ) → First l k → answer ≡ refused k
+
+-- ---- the checks of the four calls, each in document 01's words, in rising order
+
+-- set-up: 1. n, me or cap is out of range.
+abbrev pub setUpChecks : (me n cap : ℕ) → List Check
+setUpChecks me n cap = check 1 (not (inRange me n cap)) ∷ []
+
+-- send: 2. The record breaks a record rule.
+-- 3. A lent buffer is too short.
+-- 5. An M entry in row me, or a DELIV entry, is 1,000,000,000.
+-- 6. The destination is me or not below n.
+-- 7. The body is longer than 64.
+abbrev pub sendChecks : Record → ℕ → (body out : List ℕ) → List Check
+sendChecks r to body out =
+    check 2 (brokenRecord r)
+    ∷ check 3 (ltb (length out) outSize)
+    ∷ check 5 (atLimit (nodeOf r []))
+    ∷ check 6 (badDestination (nodeOf r []) to)
+    ∷ check 7 (longBody body)
+    ∷ []
+
+-- offer: 2. The record breaks a record rule.
+-- 3. The shelf's length is not 12,832.
+-- 4. The shelf is not laid out as above, a held frame would meet one of 8 to 14, or two held frames agree in from and number.
+-- 8. The frame's length is not 12 to 802, or either trailer field is wrong.
+-- 9. Kind is not 1 or 2, or byte 7 is not zero.
+-- 10. The frame's n or cap is not the record's, from or to is not below n, or they are equal.
+-- 11. 8 + 6 × e + b is not the count pointed back, b breaks its rule, e exceeds cap, or an entry breaks a rule.
+-- 12. to is not me.
+-- 13. An entry in row me exceeds M there.
+-- 14. The number is at most DELIV[from].
+-- 15. A held frame has the same from and number.
+-- 16. 16 frames are held, or 15 are and this one is not deliverable now.
+abbrev pub offerChecks : Record → (frame queue : List ℕ) → List Check
+offerChecks r s q =
+    check 2 (brokenRecord r)
+    ∷ check 3 (not (eqb (length q) queueSize))
+    ∷ check 4 (wrongQueue (nodeOf r []) (r .held) q)
+    ∷ check 8 (wrongTrailer s)
+    ∷ check 9 (wrongKind (header s))
+    ∷ check 10 (wrongAddress (r .n) (r .cap) (header s))
+    ∷ check 11 (wrongContent (r .n) (r .cap) s)
+    ∷ check 12 (notForMe (nodeAt r q) (decode s))
+    ∷ check 13 (claimsTooMuch (nodeAt r q) (decode s))
+    ∷ check 14 (deliveredBefore (nodeAt r q) (decode s))
+    ∷ check 15 (heldAlready (nodeAt r q) (decode s))
+    ∷ check 16 (noRoom (nodeAt r q) (decode s))
+    ∷ []
+
+-- deliver: 2. The record breaks a record rule.
+-- 3. A lent buffer is too short, or the shelf's length is not 12,832.
+-- 4. The shelf is not laid out as above, a held frame would meet one of 8 to 14, or two held frames agree in from and number.
+-- 5. An M entry in row me, or a DELIV entry, is 1,000,000,000.
+abbrev pub deliverChecks : Record → (queue out body : List ℕ) → List Check
+deliverChecks r q out body =
+    check 2 (brokenRecord r)
+    ∷ check 3 (not (eqb (length q) queueSize) || ltb (length out) outSize || ltb (length body) maxBody)
+    ∷ check 4 (wrongQueue (nodeOf r []) (r .held) q)
+    ∷ check 5 (atLimit (nodeOf r []))
+    ∷ []
+
+-- ---- demand 1
+
+-- set-up: a refusal comes with the all-zero record
+pub record SetUpSays (me n cap : ℕ) (c : SetUp) : Type 0 where
+  pub numbers : numbers (setUpChecks me n cap) ≡ 1 ∷ []
+  pub answers : Answers setUpAnswer.Refused setUpNumber (setUpChecks me n cap) (c .answer)
+  pub allZero : ¬ (setUpNumber (c .answer) ≡ 0) → c .node ≡ freshRecord 0 0 0
+
+-- send: a refusal leaves the record and the frame output
+pub record SendSays (r : Record) (to : ℕ) (body out : List ℕ) (c : AfterSend) : Type 0 where
+  pub numbers : numbers (sendChecks r to body out) ≡ 2 ∷ 3 ∷ 5 ∷ 6 ∷ 7 ∷ []
+  pub answers : Answers sendAnswer.Refused sendNumber (sendChecks r to body out) (c .result .answer)
+  pub same : ¬ (sendNumber (c .result .answer) ≡ 0) → (c .result .node ≡ r) × (c .out ≡ out)
+
+-- offer: a refusal leaves the record and the queue
+pub record OfferSays (r : Record) (s q : List ℕ) (c : AfterOffer) : Type 0 where
+  pub numbers : numbers (offerChecks r s q) ≡ 2 ∷ 3 ∷ 4 ∷ 8 ∷ 9 ∷ 10 ∷ 11 ∷ 12 ∷ 13 ∷ 14 ∷ 15 ∷ 16 ∷ []
+  pub answers : Answers offerAnswer.Refused offerNumber (offerChecks r s q) (c .result .answer)
+  pub same : ¬ (offerNumber (c .result .answer) ≡ 0) → (c .result .node ≡ r) × (c .queue ≡ q)
+
+-- deliver: a refusal leaves the record, the queue, the frame output and the body output
+pub record DeliverSays (r : Record) (q out body : List ℕ) (c : AfterDeliver) : Type 0 where
+  pub numbers : numbers (deliverChecks r q out body) ≡ 2 ∷ 3 ∷ 4 ∷ 5 ∷ []
+  pub answers : Answers deliverAnswer.Refused deliverNumber (deliverChecks r q out body) (c .result .answer)
+  pub same : ¬ (deliverNumber (c .result .answer) ≡ 0) → (c .result .node ≡ r) × (c .queue ≡ q) × (c .out ≡ out) × (c .body ≡ body)
+
+-- demand 1, for every input
+pub record Demand1 : Type 0 where
+  pub setUp : (me n cap : ℕ) → SetUpSays me n cap (setUp me n cap)
+  pub send : (r : Record) (to : ℕ) (body out : List ℕ) → SendSays r to body out (sendCall r to body out)
+  pub offer : (r : Record) (s q : List ℕ) → OfferSays r s q (offerCall r s q)
+  pub deliver : (r : Record) (q out body : List ℕ) → DeliverSays r q out body (deliverCall r q out body)

@@ -1,0 +1,3 @@
+-- What a reader must believe of `refusals`: demand 1, the ◆ table.
+pub mod Demand1
+pub mod Table
