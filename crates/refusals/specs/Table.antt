@@ -58,11 +58,11 @@ written (sendAnswer.Sent bytes extras) = bytes
 abbrev pub frameOf : AfterSend → List ℕ
 frameOf c = take (written (c .result .answer)) (c .out)
 
--- the answer of a delivery of a user frame with an empty body
+-- the answer of a delivery of a user frame
 abbrev pub gets : (from number tried body bytes extras : ℕ) → DeliverAnswer
 gets from number tried body bytes extras = deliverAnswer.Frame (record { kind = 1; from = from; number = number; tried = tried; body = body; bytes = bytes; extras = extras })
 
--- a matrix's array of a list with three rows: rows 0 to 2 of columns 0 to 2, zero elsewhere
+-- the array of a matrix: its rows 0 to 2 in columns 0 to 2, zero elsewhere
 abbrev pub rows : (a b c d e f g h i : ℕ) → List ℕ
 rows a b c d e f g h i = (a ∷ b ∷ c ∷ replicate 9 0) ++ ((d ∷ e ∷ f ∷ replicate 9 0) ++ ((g ∷ h ∷ i ∷ replicate 9 0) ++ replicate 108 0))
 
