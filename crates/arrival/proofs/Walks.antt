@@ -14,9 +14,9 @@ use Rattle.frame.proofs.Lookup.{Each, Ordered, Stands, each-map, look-each, loo
 use Rattle.frame.specs.Entries.{entriesFrom, entryAt, matrixOf}
 use Rattle.frame.specs.declared.entries.Entry.{Entry}
 use Rattle.matrix.specs.Matrix.{Matrix}
-use Rattle.protocol.proofs.Below.{all-each, each-all, none-some}
+use Rattle.protocol.proofs.Below.{all-each, each-all, none-some, some-none}
 use Rattle.protocol.specs.Node.{eachBelow, someBelow}
-use Rattle.wire.proofs.Tests.{T-and, and-T, eq→eqb, if-then, le→nltb, not-or, or-not, then-if}
+use Rattle.wire.proofs.Tests.{T-and, and-T, eq→eqb, if-then, le→nltb, not-or, or-not, then-if, same-test}
 
 -- whether the test holds of some entry, and of every entry
 unfoldable pub someEntry : (Entry → Bool) → List Entry → Bool
@@ -47,27 +47,11 @@ unfolding everyEntry
 entries-all p [] e = tt
 entries-all p (a ∷ l) e = T-and (p a) (everyEntry p l) (e .0) (entries-all p l (e .1))
 
--- tests that hold together, and tests that fail together, are equal
-same-test : (a b : Bool) → (T a → T b) → (T b → T a) → a ≡ b
-same-test true true f g = refl
-same-test true false f g = absurd (f tt)
-same-test false true f g = absurd (g tt)
-same-test false false f g = refl
-
 same-not : (a b : Bool) → (T (not a) → T (not b)) → (T (not b) → T (not a)) → a ≡ b
 same-not true true f g = refl
 same-not true false f g = absurd (g tt)
 same-not false true f g = absurd (f tt)
 same-not false false f g = refl
-
--- no number below k
-some-none : (k : ℕ) (p : ℕ → Bool) → T (not (someBelow k p)) → (x : ℕ) → x < k → T (not (p x))
-some-none zero p t x h = absurd (omega arith)
-some-none (suc k) p t x h = let r = or-not (someBelow k p) (p k) t in go (r .1) (some-none k p (r .0) x) (ℕ-discrete x k)
-  where
-    go : T (not (p k)) → (x < k → T (not (p x))) → Dec (x ≡ k) → T (not (p x))
-    go t ih (yes e) = rw e t
-    go t ih (no e) = ih (omega arith)
 
 -- later entries stand further on
 each-from : (k j : ℕ) (l : List Entry) → k ≤ j → Ordered j l → Each (Stands k) l

@@ -12,7 +12,7 @@ use Rattle.causality.proofs.Frames.{cut-nothing, issued-frames, trim-ba
 use Rattle.causality.proofs.Matches.{Agrees}
 use Rattle.causality.proofs.Offers.{queue-passes, whole-back}
 use Rattle.causality.proofs.Queues.{Bodies, frames-back, queue-length}
-use Rattle.causality.proofs.Records.{T-not-not, record-kept}
+use Rattle.causality.proofs.Records.{record-kept}
 use Rattle.causality.specs.Demand3.{delivered}
 use Rattle.frame.specs.Frame.{encode}
 use Rattle.frame.specs.Frames.{framesOf}
@@ -30,7 +30,7 @@ use Rattle.protocol.proofs.Lists.{at-none}
 use Rattle.protocol.specs.Node.{atLimit}
 use Rattle.protocol.specs.Offer.{deliverable}
 use Rattle.wire.proofs.Bytes.{small-bytes}
-use Rattle.wire.proofs.Tests.{cond-no, cond-yes, decide, eq→eqb, le→nltb, not-or}
+use Rattle.wire.proofs.Tests.{cond-no, cond-yes, decide, eq→eqb, le→nltb, not-or, T-not-not}
 use Rattle.wire.specs.Bytes.{AllBytes}
 use Rattle.protocol.specs.Deliver.{Search, absent, found, past, search, conclude, deliver, learn}
 use Rattle.protocol.specs.World as messages

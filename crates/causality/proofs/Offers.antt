@@ -8,7 +8,7 @@ use lib.ListN.{length}
 use Rattle.causality.proofs.Frames.{cut-nothing}
 use Rattle.causality.proofs.Matches.{Agrees}
 use Rattle.causality.proofs.Queues.{Bodies, frame-passes, frames-back, messages-back, queue-length, queue-right, sound-issue}
-use Rattle.causality.proofs.Records.{T-not-not, node-back, record-kept}
+use Rattle.causality.proofs.Records.{node-back, record-kept}
 use Rattle.causality.proofs.Refused.{SaysNo, not-zero, refused-agrees}
 use Rattle.causality.specs.Demand3.{offered}
 use Rattle.frame.proofs.Written.{decode-encode}
@@ -24,7 +24,7 @@ use Rattle.protocol.proofs.Good.{Good}
 use Rattle.protocol.proofs.Grown.{nodeAt}
 use Rattle.protocol.proofs.Lists.{at-none}
 use Rattle.protocol.specs.Offer.{claimsTooMuch, deliveredBefore, heldAlready, holding, noRoom, notForMe, offer}
-use Rattle.wire.proofs.Tests.{cond-elim, cond-no, eq→eqb}
+use Rattle.wire.proofs.Tests.{cond-elim, cond-no, eq→eqb, T-not-not}
 use Rattle.protocol.specs.World as messages
 use Rattle.protocol.specs.Answer as protocol
 use Rattle.protocol.specs.Node.{Node as MessageNode}

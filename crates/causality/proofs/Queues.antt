@@ -10,7 +10,7 @@ use lib.Dec.{T, eqb, eqb-refl, eqb→eq, ltb, not-T}
 use lib.ListN.{getElem?, length, length-map}
 use Rattle.arrival.specs.View.{arrivalRefusal}
 use Rattle.causality.proofs.Frames.{own-encode}
-use Rattle.causality.proofs.Records.{T-not-not, alone}
+use Rattle.causality.proofs.Records.{alone}
 use Rattle.holdback.proofs.Slots.{EachFramed, framed-fits, held-slots, length-slots}
 use Rattle.frame.proofs.Written.{decode-encode, encode-most, encode-sound}
 use Rattle.frame.specs.Frame.{decode, encode}
@@ -22,7 +22,7 @@ use Rattle.protocol.proofs.Below.{none-some}
 use Rattle.protocol.proofs.Bounds.{entry-bound, issue-sound}
 use Rattle.protocol.proofs.Good.{Good, Origin, stateOf}
 use Rattle.protocol.specs.Offer.{claimsTooMuch, deliveredBefore, notForMe, sameOrigin, someSameOrigin}
-use Rattle.wire.proofs.Tests.{T-and, and-T, cond-no, eq→eqb, le→nltb, lt→nleb, not-or, or-T}
+use Rattle.wire.proofs.Tests.{T-and, and-T, cond-no, eq→eqb, le→nltb, lt→nleb, not-or, or-T, T-not-not}
 use Rattle.wire.specs.Bytes.{AllBytes}
 use Rattle.protocol.specs.World as messages
 use Rattle.protocol.specs.Node.{Node as MessageNode}

@@ -20,14 +20,10 @@ use Rattle.protocol.proofs.Bounds.{matrix-bound, row-below}
 use Rattle.protocol.proofs.Good.{Good, SoundNode, stateOf}
 use Rattle.protocol.proofs.Grown.{nodeAt}
 use Rattle.protocol.specs.Node.{eachBelow}
-use Rattle.wire.proofs.Tests.{T-and, eq→eqb}
+use Rattle.wire.proofs.Tests.{T-and, eq→eqb, T-not-not}
 use Rattle.wire.specs.Limits.{maxCount, maxHeld}
 use Rattle.protocol.specs.World as messages
 use Rattle.protocol.specs.Node.{Node as MessageNode}
-
-pub T-not-not : (b : Bool) → T b → T (not (not b))
-T-not-not true t = tt
-T-not-not false t = absurd t
 
 -- one of two tests
 either-T : (a b : Bool) → T a ⊎ T b → T (a || b)

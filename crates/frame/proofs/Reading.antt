@@ -22,7 +22,7 @@ use Rattle.wire.proofs.Bytes.{bytes-drop, bytes-take}
 use Rattle.wire.proofs.Trailer.{has-sealed, trailed}
 
 -- the byte of a kind
-kind-again : (b : ℕ) → (b ≡ 1) ⊎ (b ≡ 2) → kindByte (kindOf b) ≡ b
+pub kind-again : (b : ℕ) → (b ≡ 1) ⊎ (b ≡ 2) → kindByte (kindOf b) ≡ b
 kind-again b (inl e) = rw e
 kind-again b (inr e) = rw e
 

@@ -8,6 +8,7 @@ use native.Mathlib.Omega.{arith}
 use borrow.Author.Tests.{eq-eqb, le-ltb, lt-ltb, ne-eqb}
 use lib.Dec.{eqb, eqb→eq, ltb, nltb→le}
 use lib.ListN.{length, length-map}
+use Rattle.node.proofs.Offering.{length-messages}
 use Rattle.arrival.specs.View.{nodeWith}
 use Rattle.frame.specs.Frame.{decode}
 use Rattle.frame.specs.Frames.{framesOf}
@@ -145,9 +146,6 @@ deliver-ready r q out body e =
 -- no held frame is deliverable
 abbrev pub searched : Record → List ℕ → Search
 searched r q = search (deliverable (nodeAt r q)) (heldMessages (r .held) q)
-
-length-messages : (k : ℕ) (q : List ℕ) → length (heldMessages k q) ≡ k
-length-messages k q = length-map (heldFrames k q) decode ∙ length-held k q
 
 pub deliver-none : (r : Record) (q out body : List ℕ) (place : ℕ) → place ≡ placeOf (searched r q) → place ≡ 0
     → afterDeliver (record { answer = deliverAnswer.Nothing (r .held); node = r }) q out body ≡ acceptDeliver r q out body (concluded r q) (delivery ((concluded r q) .answer))

@@ -9,6 +9,7 @@ use native.Mathlib.Omega.{arith}
 use borrow.Author.Tests.{eq-eqb, ne-eqb}
 use lib.ListN.{drop, getD, length, length-drop, length-set, set, take}
 use lib.Seq.{ext-getD, getD-set-other, getD-set-same, length-take-le}
+use Rattle.frame.proofs.Reading.{kind-again}
 use Rattle.arrival.proofs.Arrived.{decode-from}
 use Rattle.arrival.proofs.Sound.{readable, sender-below}
 use Rattle.arrival.specs.Checked.{Checked}
@@ -116,10 +117,6 @@ pub record Bodied (s : List ℕ) (h : Header) : Type 0 where
   pub kind : kindByte (kindOf (h .kind)) ≡ h .kind
   pub size : length (take (h .b) (drop (8 + 6 * h .e) s)) ≡ h .b
 
-kind-back : (b : ℕ) → (b ≡ 1) ⊎ (b ≡ 2) → kindByte (kindOf b) ≡ b
-kind-back b (inl e) = rw e
-kind-back b (inr e) = rw e
-
 pub bodied : (s : List ℕ) (h : Header) → Checked s → h ≡ header s → Bodied s h
 bodied s h c e =
     let k = passes-kept (c .n) (c .cap) s (c .passes) in
@@ -130,7 +127,7 @@ bodied s h c e =
     record {
       inside = i;
       short = k .short;
-      kind = kind-back (header s .kind) (k .kind);
+      kind = kind-again (header s .kind) (k .kind);
       size = length-take-le b (drop a s) (omega (arith, length-drop a s));
     }
 

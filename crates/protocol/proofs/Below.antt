@@ -13,7 +13,7 @@ use Rattle.protocol.specs.Deliver.{countUp}
 use Rattle.protocol.specs.Demand3.{answersAt}
 use Rattle.protocol.specs.Node.{someBelow, eachBelow}
 use Rattle.protocol.specs.World.{Event, put}
-use Rattle.wire.proofs.Tests.{cond-elim, cond-yes, eq→eqb, cond-same, cond-other, and-T, T-and, not-or}
+use Rattle.wire.proofs.Tests.{cond-elim, cond-yes, eq→eqb, cond-same, cond-other, and-T, T-and, not-or, or-not}
 
 -- each passes the test, as a test and as a fact
 pub each-all : (k : ℕ) (p : ℕ → Bool) → T (eachBelow k p) → (x : ℕ) → x < k → T (p x)
@@ -33,6 +33,15 @@ all-each (suc k) p f = T-and (eachBelow k p) (p k) (all-each k p (λ x h. f x (o
 pub none-some : (k : ℕ) (p : ℕ → Bool) → ((x : ℕ) → x < k → T (not (p x))) → T (not (someBelow k p))
 none-some zero p f = tt
 none-some (suc k) p f = not-or (someBelow k p) (p k) (none-some k p (λ x h. f x (omega arith))) (f k (omega arith))
+
+-- where it is not the case that some pass the test, none does
+pub some-none : (k : ℕ) (p : ℕ → Bool) → T (not (someBelow k p)) → (x : ℕ) → x < k → T (not (p x))
+some-none zero p t x h = absurd (omega arith)
+some-none (suc k) p t x h = let r = or-not (someBelow k p) (p k) t in go (r .1) (some-none k p (r .0) x) (ℕ-discrete x k)
+  where
+    go : T (not (p k)) → (x < k → T (not (p x))) → Dec (x ≡ k) → T (not (p x))
+    go last ih (yes e) = rw e last
+    go last ih (no e) = ih (omega arith)
 
 -- the value that was put
 pub put-same : {A : Type 0} (v : ℕ → A) (i : ℕ) (a : A) → put v i a i ≡ a

@@ -12,9 +12,8 @@ use Rattle.matrix.proofs.Array.{entry-out}
 use Rattle.matrix.proofs.Columns.{MatrixRules}
 use Rattle.matrix.specs.Array.{entry}
 use Rattle.matrix.specs.Matrix.{Matrix, count}
-use Rattle.protocol.proofs.Below.{each-all}
+use Rattle.protocol.proofs.Below.{each-all, some-none}
 use Rattle.protocol.specs.Node.{Node, atLimit, eachBelow, someBelow}
-use Rattle.rules.proofs.Passes.{some-none}
 use Rattle.rules.specs.Rules.{brokenRules, inRange, withinLimit, zeroColumn, zeroDiagonal, zeroFrom}
 use Rattle.wire.proofs.Tests.{and-T, is-true, neqb→ne, of-true, or-T, or-not}
 use Rattle.wire.specs.Limits.{maxCount}

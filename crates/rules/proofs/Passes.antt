@@ -13,14 +13,7 @@ use Rattle.matrix.proofs.Array.{entry-place, place-column, place-row}
 use Rattle.matrix.specs.Array.{entry}
 use Rattle.protocol.proofs.Below.{all-each, each-all}
 use Rattle.protocol.specs.Node.{eachBelow, someBelow}
-use Rattle.wire.proofs.Tests.{cond-elim, or-not}
-
--- two tests that follow from each other are equal
-pub same-test : (a b : Bool) → (T a → T b) → (T b → T a) → a ≡ b
-same-test true true f g = refl
-same-test true false f g = absurd (f tt)
-same-test false true f g = absurd (g tt)
-same-test false false f g = refl
+use Rattle.wire.proofs.Tests.{cond-elim, or-not, same-test}
 
 -- one turn
 pub each-turn : (k : ℕ) (p : ℕ → Bool) (ok ok′ t : Bool) → ok ≡ eachBelow k p → t ≡ p k → ok′ ≡ (ok && t) → ok′ ≡ eachBelow (k + 1) p
@@ -61,12 +54,3 @@ row-start n x f = go (ltb x n)
 
 pub start-le : (n x : ℕ) → n ≤ 12 → cond (ltb x n) n 0 ≤ 12
 start-le n x h = cond-elim (λ (z : ℕ). z ≤ 12) (ltb x n) n 0 (λ _. h) (λ _. omega arith)
-
--- where it is not the case that some pass the test, none does
-pub some-none : (k : ℕ) (p : ℕ → Bool) → T (not (someBelow k p)) → (x : ℕ) → x < k → T (not (p x))
-some-none zero p t x h = absurd (omega arith)
-some-none (suc k) p t x h = let r = or-not (someBelow k p) (p k) t in go (r .1) (some-none k p (r .0) x) (ℕ-discrete x k)
-  where
-    go : T (not (p k)) → (x < k → T (not (p x))) → Dec (x ≡ k) → T (not (p x))
-    go last ih (yes e) = rw e last
-    go last ih (no e) = ih (omega arith)

@@ -121,6 +121,18 @@ pub skipped : (b : Bool) (v x : ℕ) → (v ≡ 0 → ⊥) → cond b v x ≡ 0 
 skipped true v x h e = absurd (h e)
 skipped false v x h e = (tt, e)
 
+-- a test that holds, denied twice
+pub T-not-not : (b : Bool) → T b → T (not (not b))
+T-not-not true t = tt
+T-not-not false t = absurd t
+
+-- two tests that follow from each other are equal
+pub same-test : (a b : Bool) → (T a → T b) → (T b → T a) → a ≡ b
+same-test true true f g = refl
+same-test true false f g = absurd (f tt)
+same-test false true f g = absurd (g tt)
+same-test false false f g = refl
+
 -- a test that a function made, its result r, is the test t, and a branch on `!r` was taken, or left
 pub denied : (r t : Bool) → r ≡ t → not r ≡ true → t ≡ false
 denied r t e h = sym e ∙ not-true r h
