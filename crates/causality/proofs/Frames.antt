@@ -20,6 +20,7 @@ use Rattle.matrix.proofs.Matrix.{nonZero-le}
 use Rattle.matrix.proofs.Sums.{sum-ones}
 use Rattle.matrix.specs.Matrix.{Matrix, clear, columnCount, count, fullest, nonZero}
 use Rattle.matrix.specs.Message.{Message, extraMessage}
+use Rattle.node.specs.Sizes.{outSize}
 use Rattle.protocol.proofs.Lists.{at-none}
 use Rattle.protocol.specs.Trim.{Trimmed, issuing, trimFor, untouched}
 use Rattle.wire.proofs.Bytes.{put-back}
@@ -91,7 +92,7 @@ trim-room (suc k) me n cap m =
     ))
 
 -- a send's frames fit 2,048 bytes
-pub send-room : (f : Message) → length (encode f) ≤ maxFrame → (l : List Message) → length (framesOf l) ≤ 1008 → length (framesOf (f ∷ l)) ≤ 2048
+pub send-room : (f : Message) → length (encode f) ≤ maxFrame → (l : List Message) → length (framesOf l) ≤ 1008 → length (framesOf (f ∷ l)) ≤ outSize
 unfolding framesOf
 send-room f h l r = omega (arith, length-append (encode f) (framesOf l))
 

@@ -22,6 +22,7 @@ use Rattle.matrix.specs.Matrix.{clear}
 use Rattle.matrix.specs.Message.{Message}
 use Rattle.node.specs.Answers.{AfterSend}
 use Rattle.node.specs.Calls.{acceptSend, refuseSend, sendCall}
+use Rattle.node.specs.Sizes.{outSize}
 use Rattle.node.specs.Record.{brokenRecord, nodeOf, recordOf}
 use Rattle.protocol.proofs.Bounds.{below-limit}
 use Rattle.protocol.proofs.Good.{Good}
@@ -105,7 +106,7 @@ module _ (n cap : ℕ) (w : messages.World) (g : Good n (λ i. cap) w) (few : le
   says-no : (k : ℕ) → T (not (eqb k 0)) → SaysNo (sent (answer.Refused k))
   says-no k t = record { refuses = not-zero k t; nothing = refl; holds = refl; gives = refl; counts = refl }
 
-  settled : (to : ℕ) (body out : List ℕ) → AllBytes body → 2048 ≤ length out → Case to body → Left (send d to body) (settle out (send (with-held []) to body))
+  settled : (to : ℕ) (body out : List ℕ) → AllBytes body → outSize ≤ length out → Case to body → Left (send d to body) (settle out (send (with-held []) to body))
   settled to body out bytes h (refuses k t e) =
       subst (λ (o : protocol.Outcome). Left o (settle out (send (with-held []) to body))) (sym (e (w .nodes i .held)))
       (subst (λ (o : protocol.Outcome). Left (protocol.refuse k d) (settle out o)) (sym (e [])) (refused-agrees d k (sent (answer.Refused k)) out (says-no k t)))
@@ -131,18 +132,18 @@ module _ (n cap : ℕ) (w : messages.World) (g : Good n (λ i. cap) w) (few : le
       all-bytes (suc p) m a = subst (λ (x : List ℕ). AllBytes x) (sym (trim-bare 12 i n cap (clear i to (w .nodes i .matrix)) p m a)) (small-bytes [] tt)
 
   -- a send that is lent an output of at least 2,048 bytes
-  pub send-agrees : (to : ℕ) (body out : List ℕ) → AllBytes body → 2048 ≤ length out → Left (send d to body) (sendCall r to body out)
+  pub send-agrees : (to : ℕ) (body out : List ℕ) → AllBytes body → outSize ≤ length out → Left (send d to body) (sendCall r to body out)
   unfolding sendCall
   send-agrees to body out bytes h =
       subst (Left (send d to body))
-      (sym (cond-no (brokenRecord r) (refuseSend 2 r out) (cond (ltb (length out) 2048) (refuseSend 3 r out) (settle out (send (nodeOf r []) to body))) (record-kept n cap w g few i hi)
-      ∙ cond-no (ltb (length out) 2048) (refuseSend 3 r out) (settle out (send (nodeOf r []) to body)) (le→nltb (length out) 2048 h)
+      (sym (cond-no (brokenRecord r) (refuseSend 2 r out) (cond (ltb (length out) outSize) (refuseSend 3 r out) (settle out (send (nodeOf r []) to body))) (record-kept n cap w g few i hi)
+      ∙ cond-no (ltb (length out) outSize) (refuseSend 3 r out) (settle out (send (nodeOf r []) to body)) (le→nltb (length out) outSize h)
       ∙ ap (λ (e : MessageNode). settle out (send e to body)) (node-back n cap w g few i hi [])))
       (settled to body out bytes h (case to body))
 
   -- one that is lent less
-  pub send-short : (to : ℕ) (body out : List ℕ) → length out < 2048 → sendCall r to body out ≡ refuseSend 3 r out
+  pub send-short : (to : ℕ) (body out : List ℕ) → length out < outSize → sendCall r to body out ≡ refuseSend 3 r out
   unfolding sendCall
   send-short to body out h =
-      cond-no (brokenRecord r) (refuseSend 2 r out) (cond (ltb (length out) 2048) (refuseSend 3 r out) (settle out (send (nodeOf r []) to body))) (record-kept n cap w g few i hi)
-      ∙ cond-yes (ltb (length out) 2048) (refuseSend 3 r out) (settle out (send (nodeOf r []) to body)) (lt→ltb (length out) 2048 h)
+      cond-no (brokenRecord r) (refuseSend 2 r out) (cond (ltb (length out) outSize) (refuseSend 3 r out) (settle out (send (nodeOf r []) to body))) (record-kept n cap w g few i hi)
+      ∙ cond-yes (ltb (length out) outSize) (refuseSend 3 r out) (settle out (send (nodeOf r []) to body)) (lt→ltb (length out) outSize h)

@@ -29,6 +29,7 @@ use Rattle.node.specs.Answers.{AfterDeliver, afterDeliver}
 use Rattle.node.specs.Calls.{acceptDeliver, deliverCall, refusal, refuseDeliver}
 use Rattle.node.specs.Checks.{deliverRefusal, nodeAt, wrongLengths}
 use Rattle.node.specs.Record.{brokenRecord, nodeOf}
+use Rattle.node.specs.Sizes.{outSize}
 use Rattle.protocol.specs.Answer.{Outcome, accepted, delivery, label, refuse}
 use Rattle.protocol.specs.Deliver.{Search, absent, conclude, countUp, deliver, found, learn, search}
 use Rattle.protocol.specs.Node.{Node, atLimit}
@@ -109,19 +110,19 @@ module _ (q out body : ℕ) where
   pub wrong-queue-length : (q ≡ queueSize → ⊥) → wrongLengths q out body ≡ true
   wrong-queue-length a = rw (ne-eqb q queueSize a)
 
-  pub short-out : q ≡ queueSize → out < 2048 → wrongLengths q out body ≡ true
-  short-out a b = rw (eq-eqb q queueSize a, lt-ltb out 2048 b)
+  pub short-out : q ≡ queueSize → out < outSize → wrongLengths q out body ≡ true
+  short-out a b = rw (eq-eqb q queueSize a, lt-ltb out outSize b)
 
-  pub short-body : q ≡ queueSize → 2048 ≤ out → body < maxBody → wrongLengths q out body ≡ true
-  short-body a b c = rw (eq-eqb q queueSize a, le-ltb out 2048 b, lt-ltb body maxBody c)
+  pub short-body : q ≡ queueSize → outSize ≤ out → body < maxBody → wrongLengths q out body ≡ true
+  short-body a b c = rw (eq-eqb q queueSize a, le-ltb out outSize b, lt-ltb body maxBody c)
 
-  pub right-lengths : q ≡ queueSize → 2048 ≤ out → maxBody ≤ body → wrongLengths q out body ≡ false
-  right-lengths a b c = rw (eq-eqb q queueSize a, le-ltb out 2048 b, le-ltb body maxBody c)
+  pub right-lengths : q ≡ queueSize → outSize ≤ out → maxBody ≤ body → wrongLengths q out body ≡ false
+  right-lengths a b c = rw (eq-eqb q queueSize a, le-ltb out outSize b, le-ltb body maxBody c)
 
 -- what a deliver that passed its checks knows
 pub record Ready (r : Record) (q : List ℕ) (out body : ℕ) : Type 0 where
   pub sound : Unbroken (r .me) (r .n) (r .cap) (entry (r .m)) (vector (r .deliv)) (r .held)
-  pub long : 2048 ≤ out
+  pub long : outSize ≤ out
   pub room : maxBody ≤ body
   pub queue : CheckedQueue (r .held) q
   pub layout : q ≡ laid (heldFrames (r .held) q)
@@ -133,11 +134,11 @@ deliver-ready r q out body e =
     let l = skipped (wrongLengths (length q) out body) 3 _ (omega arith) (p .1) in
     let w = skipped (wrongQueue (nodeOf r []) (r .held) q) 4 _ (omega arith) (l .1) in
     let passes : wrongQueue (nodeOf r []) (r .held) q ≡ false = is-false (wrongQueue (nodeOf r []) (r .held) q) (w .0) in
-    let t = no-three (not (eqb (length q) queueSize)) (ltb out 2048) (ltb body maxBody) (l .0) in
+    let t = no-three (not (eqb (length q) queueSize)) (ltb out outSize) (ltb body maxBody) (l .0) in
     let sound = unbroken (r .me) (r .n) (r .cap) (r .m) (vector (r .deliv)) (r .held) (is-false (brokenRecord r) (p .0)) in
     record {
       sound = sound;
-      long = nltb→le out 2048 (t .1);
+      long = nltb→le out outSize (t .1);
       room = nltb→le body maxBody (t .2);
       queue = record { node = nodeOf r []; few = sound .range .atMost12; most = sound .room; size = eqb→eq (length q) queueSize (not-not (eqb (length q) queueSize) (t .0)); passes = passes };
       layout = queue-kept (nodeOf r []) (r .held) q passes .queue;

@@ -91,22 +91,22 @@ module _ (r : Record) (q : List ℕ) where
   unfolding recordRefusal
   record-2 a = rw a
 
-  pub record-3 : brokenRecord r ≡ false → (length q ≡ 12832 → ⊥) → recordRefusal r q ≡ 3
+  pub record-3 : brokenRecord r ≡ false → (length q ≡ queueSize → ⊥) → recordRefusal r q ≡ 3
   unfolding recordRefusal
-  record-3 a b = rw (a, ne-eqb (length q) 12832 b)
+  record-3 a b = rw (a, ne-eqb (length q) queueSize b)
 
-  pub record-4 : brokenRecord r ≡ false → length q ≡ 12832 → wrongQueue (nodeOf r []) (r .held) q ≡ true → recordRefusal r q ≡ 4
+  pub record-4 : brokenRecord r ≡ false → length q ≡ queueSize → wrongQueue (nodeOf r []) (r .held) q ≡ true → recordRefusal r q ≡ 4
   unfolding recordRefusal
-  record-4 a b c = rw (a, eq-eqb (length q) 12832 b, c)
+  record-4 a b c = rw (a, eq-eqb (length q) queueSize b, c)
 
-  pub record-0 : brokenRecord r ≡ false → length q ≡ 12832 → wrongQueue (nodeOf r []) (r .held) q ≡ false → recordRefusal r q ≡ 0
+  pub record-0 : brokenRecord r ≡ false → length q ≡ queueSize → wrongQueue (nodeOf r []) (r .held) q ≡ false → recordRefusal r q ≡ 0
   unfolding recordRefusal
-  record-0 a b c = rw (a, eq-eqb (length q) 12832 b, c)
+  record-0 a b c = rw (a, eq-eqb (length q) queueSize b, c)
 
 -- what passing them tells
 pub record RecordPassed (r : Record) (q : List ℕ) : Type 0 where
   pub sound : Unbroken (r .me) (r .n) (r .cap) (entry (r .m)) (vector (r .deliv)) (r .held)
-  pub size : length q ≡ 12832
+  pub size : length q ≡ queueSize
   pub keeps : brokenRecord r ≡ false
   pub queue : wrongQueue (nodeOf r []) (r .held) q ≡ false
 
@@ -114,11 +114,11 @@ pub record-passed : (r : Record) (q : List ℕ) → recordRefusal r q ≡ 0 → 
 unfolding recordRefusal brokenRecord
 record-passed r q e =
     let p = skipped (brokenRecord r) 2 _ (omega arith) e in
-    let s = skipped (not (eqb (length q) 12832)) 3 _ (omega arith) (p .1) in
+    let s = skipped (not (eqb (length q) queueSize)) 3 _ (omega arith) (p .1) in
     let t = skipped (wrongQueue (nodeOf r []) (r .held) q) 4 0 (omega arith) (s .1) in
     record {
       sound = unbroken (r .me) (r .n) (r .cap) (r .m) (vector (r .deliv)) (r .held) (is-false (brokenRecord r) (p .0));
-      size = eqb→eq (length q) 12832 (not-not (eqb (length q) 12832) (s .0));
+      size = eqb→eq (length q) queueSize (not-not (eqb (length q) queueSize) (s .0));
       keeps = is-false (brokenRecord r) (p .0);
       queue = is-false (wrongQueue (nodeOf r []) (r .held) q) (t .0);
     }
@@ -146,16 +146,16 @@ first-none i j k x false false false p q r e = refl
 pub offer-record : (r : Record) (s q : List ℕ) (k : ℕ) → k ≡ recordRefusal r q → (k ≡ 0 → ⊥) → k ≡ offerRefusal r s q
 unfolding recordRefusal offerRefusal
 offer-record r s q k e h =
-    e ∙ first-met 2 3 4 (cond (not (eqb (frameRefusal (r .n) (r .cap) s) 0)) (frameRefusal (r .n) (r .cap) s) (holdRefusal (nodeAt r q) (decode s))) (brokenRecord r) (not (eqb (length q) 12832)) (wrongQueue (nodeOf r []) (r .held) q) (λ z. h (e ∙ z))
+    e ∙ first-met 2 3 4 (cond (not (eqb (frameRefusal (r .n) (r .cap) s) 0)) (frameRefusal (r .n) (r .cap) s) (holdRefusal (nodeAt r q) (decode s))) (brokenRecord r) (not (eqb (length q) queueSize)) (wrongQueue (nodeOf r []) (r .held) q) (λ z. h (e ∙ z))
 
 pub offer-frame : (r : Record) (s q : List ℕ) → RecordPassed r q → (k : ℕ) → k ≡ frameRefusal (r .n) (r .cap) s → (k ≡ 0 → ⊥) → k ≡ offerRefusal r s q
 unfolding offerRefusal
 offer-frame r s q p k e h =
-    rw (p .keeps, eq-eqb (length q) 12832 (p .size), p .queue, ← e, ne-eqb k 0 h)
+    rw (p .keeps, eq-eqb (length q) queueSize (p .size), p .queue, ← e, ne-eqb k 0 h)
 
 pub offer-hold : (r : Record) (s q : List ℕ) → RecordPassed r q → frameRefusal (r .n) (r .cap) s ≡ 0 → offerRefusal r s q ≡ holdRefusal (nodeAt r q) (decode s)
 unfolding offerRefusal
-offer-hold r s q p e = rw (p .keeps, eq-eqb (length q) 12832 (p .size), p .queue, e)
+offer-hold r s q p e = rw (p .keeps, eq-eqb (length q) queueSize (p .size), p .queue, e)
 
 -- the protocol's checks of an offer, one after the other
 module _ (d : Node) (m : Message) where
@@ -216,7 +216,7 @@ pub record Holdable (r : Record) (s q : List ℕ) : Type 0 where
   pub room : r .held < 16
   pub fits : length s ≤ maxFrame
   pub queue : q ≡ laid (heldFrames (r .held) q)
-  pub size : length q ≡ 12832
+  pub size : length q ≡ queueSize
 
 pub holdable : (r : Record) (s q : List ℕ) → RecordPassed r q → frameRefusal (r .n) (r .cap) s ≡ 0 → holdRefusal (nodeAt r q) (decode s) ≡ 0 → Holdable r s q
 holdable r s q p f h =

@@ -24,12 +24,9 @@ use Rattle.node.specs.declared.Node.{Node as Record}
 use Rattle.node.specs.declared.SendAnswer.the-variants as sendAnswer
 use Rattle.node.specs.declared.OfferAnswer.the-variants as offerAnswer
 use Rattle.node.specs.declared.DeliverAnswer.the-variants as deliverAnswer
+use Rattle.node.specs.Sizes.{outSize}
 use Rattle.node.specs.Record.{brokenRecord, nodeOf}
 use Rattle.node.specs.Answers.{AfterSend, AfterOffer, AfterDeliver, afterSend, afterOffer, afterDeliver}
-
--- the shortest frame output
-abbrev pub outSize : ℕ
-outSize = 2048
 
 -- the number of a refusal of the protocol
 abbrev pub refusal : Answer → ℕ

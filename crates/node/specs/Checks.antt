@@ -14,12 +14,13 @@ use Rattle.protocol.specs.Offer.{notForMe, claimsTooMuch, deliveredBefore, held
 use Rattle.holdback.specs.Slots.{queueSize, heldMessages}
 use Rattle.holdback.specs.Check.{wrongQueue}
 use Rattle.node.specs.declared.Node.{Node as Record}
+use Rattle.node.specs.Sizes.{outSize}
 use Rattle.node.specs.Record.{brokenRecord, nodeOf}
 
 -- send: 2, 3, 5, 6, 7, for a body and a frame output of these lengths
 unfoldable pub sendRefusal : Record → ℕ → ℕ → ℕ → ℕ
 sendRefusal r to body out =
-    cond (brokenRecord r) 2 (cond (ltb out 2048) 3 (cond (atLimit (nodeOf r [])) 5 (cond (badDestination (nodeOf r []) to) 6 (cond (ltb maxBody body) 7 0))))
+    cond (brokenRecord r) 2 (cond (ltb out outSize) 3 (cond (atLimit (nodeOf r [])) 5 (cond (badDestination (nodeOf r []) to) 6 (cond (ltb maxBody body) 7 0))))
 
 -- the protocol's node of a record and its queue
 abbrev pub nodeAt : Record → List ℕ → Node
@@ -43,7 +44,7 @@ offerRefusal r s q =
 
 -- 3 of deliver: a lent buffer is too short, or the shelf's length is not 12,832
 abbrev pub wrongLengths : ℕ → ℕ → ℕ → Bool
-wrongLengths q out body = not (eqb q queueSize) || ltb out 2048 || ltb body maxBody
+wrongLengths q out body = not (eqb q queueSize) || ltb out outSize || ltb body maxBody
 
 -- deliver: 2 to 5, for outputs of these lengths
 unfoldable pub deliverRefusal : Record → List ℕ → ℕ → ℕ → ℕ

@@ -42,10 +42,10 @@ fn refusal<'a>(
     if rules::broken(me, n, cap, m, deliv, held) {
         return 2;
     }
-    if q.len() != 12832 {
+    if q.len() != Node::QUEUE_SIZE {
         return 3;
     }
-    if out < 2048 {
+    if out < Node::OUT_SIZE {
         return 3;
     }
     if body < wire::MAX_BODY {

@@ -32,7 +32,7 @@ fn record_refusal<'a>(
     if rules::broken(me, n, cap, m, deliv, held) {
         return 2;
     }
-    if queue.len() != 12832 {
+    if queue.len() != Node::QUEUE_SIZE {
         return 3;
     }
     if holdback::wrong_queue(queue, held as usize, me, n, cap, m, deliv) {
@@ -40,6 +40,9 @@ fn record_refusal<'a>(
     }
     0
 }
+
+/// Frames held where only a deliverable one is still taken.
+const LAST_SLOT: usize = wire::MAX_HELD - 1;
 
 /// A refusal's number, or 0, and whether the frame is deliverable now where no earlier check is met.
 struct Verdict {
@@ -52,7 +55,7 @@ fn hold_refusal<'a>(
     me: u8,
     m: &'a [u32; 144],
     deliv: &'a [u32; 12],
-    held: u8,
+    held: usize,
     queue: &[u8],
     frame: &[u8],
 ) -> Verdict
@@ -63,17 +66,17 @@ fn hold_refusal<'a>(
     if why != 0 {
         return Verdict { why, ready: false };
     }
-    if holdback::alike(queue, held as usize, frame) {
+    if holdback::alike(queue, held, frame) {
         return Verdict {
             why: 15,
             ready: false,
         };
     }
     let ready = arrival::deliverable(frame, me, deliv);
-    if held == 16 {
+    if held == wire::MAX_HELD {
         return Verdict { why: 16, ready };
     }
-    if held != 15 {
+    if held != LAST_SLOT {
         return Verdict { why: 0, ready };
     }
     if ready {
@@ -105,7 +108,7 @@ impl Node {
                 node: self,
             };
         }
-        let v = hold_refusal(me, &self.m, &self.deliv, held, queue, frame);
+        let v = hold_refusal(me, &self.m, &self.deliv, held as usize, queue, frame);
         if v.why != 0 {
             return Offered {
                 answer: OfferAnswer::Refused(v.why),

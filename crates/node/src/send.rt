@@ -29,7 +29,7 @@ fn refusal<'a>(
     if rules::broken(me, n, cap, m, deliv, held) {
         return 2;
     }
-    if out < 2048 {
+    if out < Node::OUT_SIZE {
         return 3;
     }
     if rules::at_limit(me as usize, m, deliv) {

@@ -26,7 +26,8 @@ use Rattle.node.specs.declared.DeliverAnswer.the-variants as deliverAnswer
 use Rattle.node.specs.Record.{brokenRecord, nodeOf}
 use Rattle.node.specs.SetUp.{freshRecord, setUp}
 use Rattle.node.specs.Answers.{AfterDeliver, AfterOffer, AfterSend, deliverNumber, offerNumber, sendNumber, setUpNumber}
-use Rattle.node.specs.Calls.{deliverCall, offerCall, outSize, sendCall}
+use Rattle.node.specs.Sizes.{outSize}
+use Rattle.node.specs.Calls.{deliverCall, offerCall, sendCall}
 use Rattle.node.specs.Checks.{nodeAt}
 
 -- ---- checks, and the first that is met

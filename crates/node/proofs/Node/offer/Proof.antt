@@ -46,6 +46,9 @@ returns-2 c =
     let s = i .before .before .before .before .before .before .before .before in
     offer-refused (s .args .t1) (s .args .frame .now) (s .args .queue .now) _ (offer-frame (s .args .t1) (s .args .frame .now) (s .args .queue .now) (kept i) _ (c .before .refusal .ensures) (c .if2 .taken)) (c .if2 .taken)
 
+cast-hold-refusal : tie.Need-cast-hold-refusal
+cast-hold-refusal c = search needs
+
 hold-refusal-requires : tie.Need-hold-refusal-requires
 hold-refusal-requires c κs =
     let f = c .before .before .before .before in
@@ -76,8 +79,8 @@ hold-requires c κs = let k = free (c .before) in (k .size, k .room, k .fits, k 
 add-next : tie.Need-add-next
 add-next c = let k = free (c .before .before .before .before) in record { fits = omega (arith, k .room) }
 
-cast-t31 : tie.Need-cast-t31
-cast-t31 c = let k = free (c .before .before .before .before) in record { fits = omega (arith, k .room) }
+cast-t24 : tie.Need-cast-t24
+cast-t24 c = let k = free (c .before .before .before .before) in record { fits = omega (arith, k .room) }
 
 add-t32 : tie.Need-add-t32
 add-t32 c = let k = free (c .before .before .before .before) in record { fits = omega (arith, k .room) }
@@ -107,13 +110,14 @@ offer-spec =
     refusal-requires
     same-length-2
     returns-2
+    cast-hold-refusal
     hold-refusal-requires
     same-length-3
     returns-3
     cast-hold
     hold-requires
     add-next
-    cast-t31
+    cast-t24
     add-t32
     same-length-4
     returns-4)
