@@ -116,7 +116,7 @@ module _ (n cap : ℕ) (w : messages.World) (g : Good n (λ i. cap) w) (few : le
 
   -- check 3 is met, or not
   abbrev short : List ℕ → List ℕ → Bool
-  short out body = not (eqb (length q) queueSize) || ltb (length out) outSize || ltb (length body) 64
+  short out body = ltb (length out) outSize || ltb (length body) 64 || not (eqb (length q) queueSize)
 
   -- a deliver that is lent outputs of at least 2,048 and 64 bytes
   pub deliver-agrees : (out body : List ℕ) → outSize ≤ length out → 64 ≤ length body → Left (deliver d) (deliverCall r q out body)
@@ -135,9 +135,9 @@ module _ (n cap : ℕ) (w : messages.World) (g : Good n (λ i. cap) w) (few : le
     where
       long : T (not (short out body))
       long =
-          not-or (not (eqb (length q) queueSize) || ltb (length out) outSize) (ltb (length body) 64)
-          (not-or (not (eqb (length q) queueSize)) (ltb (length out) outSize) (T-not-not (eqb (length q) queueSize) (eq→eqb (length q) queueSize (queue-length n cap w g few bodies i hi))) (le→nltb (length out) outSize h))
-          (le→nltb (length body) 64 k)
+          not-or (ltb (length out) outSize || ltb (length body) 64) (not (eqb (length q) queueSize))
+          (not-or (ltb (length out) outSize) (ltb (length body) 64) (le→nltb (length out) outSize h) (le→nltb (length body) 64 k))
+          (T-not-not (eqb (length q) queueSize) (eq→eqb (length q) queueSize (queue-length n cap w g few bodies i hi)))
 
   -- one that is lent less
   pub deliver-short : (out body : List ℕ) → T (ltb (length out) outSize || ltb (length body) 64) → deliverCall r q out body ≡ refuseDeliver 3 r q out body
@@ -146,8 +146,8 @@ module _ (n cap : ℕ) (w : messages.World) (g : Good n (λ i. cap) w) (few : le
       let o : protocol.Outcome = deliver (nodeOf r (heldMessages (length (w .nodes i .held)) q)) in
       let t₄ : AfterDeliver = cond (wrongQueue (nodeOf r []) (length (w .nodes i .held)) q) (refuseDeliver 4 r q out body) (settle out body o) in
       cond-no (brokenRecord r) (refuseDeliver 2 r q out body) (cond (short out body) (refuseDeliver 3 r q out body) t₄) (record-kept n cap w g few i hi)
-      ∙ cond-yes (short out body) (refuseDeliver 3 r q out body) t₄ (go (not (eqb (length q) queueSize)) (ltb (length out) outSize) (ltb (length body) 64) h)
+      ∙ cond-yes (short out body) (refuseDeliver 3 r q out body) t₄ (go (ltb (length out) outSize || ltb (length body) 64) (not (eqb (length q) queueSize)) h)
     where
-      go : (a b c : Bool) → T (b || c) → T (a || b || c)
-      go true b c t = tt
-      go false b c t = t
+      go : (a b : Bool) → T a → T (a || b)
+      go true b t = tt
+      go false b t = absurd t

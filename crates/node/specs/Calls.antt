@@ -137,6 +137,6 @@ unfoldable pub deliverCall : Record → List ℕ → List ℕ → List ℕ → A
 deliverCall r q out body =
     let o : Outcome = deliver (nodeOf r (heldMessages (r .held) q)) in
     cond (brokenRecord r) (refuseDeliver 2 r q out body)
-    (cond (not (eqb (length q) queueSize) || ltb (length out) outSize || ltb (length body) maxBody) (refuseDeliver 3 r q out body)
+    (cond (ltb (length out) outSize || ltb (length body) maxBody || not (eqb (length q) queueSize)) (refuseDeliver 3 r q out body)
     (cond (wrongQueue (nodeOf r []) (r .held) q) (refuseDeliver 4 r q out body)
     (cond (accepted (o .answer)) (acceptDeliver r q out body o (delivery (o .answer))) (refuseDeliver (refusal (o .answer)) r q out body))))

@@ -1,4 +1,5 @@
 //! The causal node: its record, set-up, send, offer and deliver. The record goes into each call by value and comes back with its answer.
+mod checks;
 mod deliver;
 mod offer;
 mod send;

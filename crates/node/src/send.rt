@@ -55,22 +55,12 @@ impl Node {
         let me = self.me;
         let n = self.n;
         let cap = self.cap;
-        let why = refusal(
-            me,
-            n,
-            cap,
-            &self.m,
-            &self.deliv,
-            self.held,
-            to,
-            body.len(),
-            out.len(),
-        );
+        let size = body.len();
+        let room = out.len();
+        let why = refusal(me, n, cap, &self.m, &self.deliv, self.held, to, size, room);
         if why != 0 {
-            return Sent {
-                answer: SendAnswer::Refused(why),
-                node: self,
-            };
+            let answer = SendAnswer::Refused(why);
+            return Sent { answer, node: self };
         }
         let mut next = self;
         let a = Address {
@@ -82,12 +72,10 @@ impl Node {
         let at = frame::write::user(out, 0, a, &next.m, body);
         matrix::clear_column(&mut next.m, me as usize, to);
         let t = trim::trim(&mut next.m, out, at, me, n, cap);
-        Sent {
-            answer: SendAnswer::Sent {
-                bytes: t.at,
-                extras: t.extras as usize,
-            },
-            node: next,
-        }
+        let answer = SendAnswer::Sent {
+            bytes: t.at,
+            extras: t.extras as usize,
+        };
+        Sent { answer, node: next }
     }
 }

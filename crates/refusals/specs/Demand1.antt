@@ -129,7 +129,7 @@ offerChecks r s q =
 abbrev pub deliverChecks : Record → (queue out body : List ℕ) → List Check
 deliverChecks r q out body =
     check 2 (brokenRecord r)
-    ∷ check 3 (not (eqb (length q) queueSize) || ltb (length out) outSize || ltb (length body) maxBody)
+    ∷ check 3 (ltb (length out) outSize || ltb (length body) maxBody || not (eqb (length q) queueSize))
     ∷ check 4 (wrongQueue (nodeOf r []) (r .held) q)
     ∷ check 5 (atLimit (nodeOf r []))
     ∷ []

@@ -1,15 +1,17 @@
 -- The checks on record, frame and protocol, and then the frame behind the held ones. Assumes nothing.
+use mathlib.Core.Bool.{false}
 use mathlib.Core.Path.{_∙_, _≡_, refl, sym}
 use native.Mathlib.Omega.{arith}
 use borrow.Author.Needs.{needs}
 use Rattle.frame.specs.Refusals.{frameRefusal}
-use Rattle.node.proofs.Offering.{Holdable, RecordPassed, checked-queue, holdable, offer-accepted, offer-frame, offer-hold, offer-leaves, offer-record, offer-refused, record-passed}
+use Rattle.node.proofs.Offering.{Holdable, holdable, offer-accepted, offer-frame, offer-hold, offer-leaves, offer-record, offer-refused}
+use Rattle.node.proofs.Shared.{RecordPassed, checked-queue, record-passed}
 use Rattle.node.proofs.Node.offer.Statement.{statement}
 use Rattle.node.proofs.Node.offer.Tie as tie
 
 -- what record and queue keep once their checks are passed
-kept : (c : tie.Else1) → RecordPassed (c .before .before .before .before .before .before .before .before .args .t1) (c .before .before .before .before .before .before .before .before .args .queue .now)
-kept c = record-passed _ _ (sym (c .before .record-refusal .ensures) ∙ c .if1 .left)
+kept : (c : tie.Else1) → RecordPassed (c .before .before .before .before .before .before .before .before .args .t1) (c .before .before .before .before .before .before .before .before .args .queue .now) false
+kept c = record-passed _ _ _ _ (sym (c .before .record-refusal .ensures) ∙ c .if1 .left)
 
 -- the frame is sound once its checks are passed
 sound : (c : tie.Else2) → frameRefusal (c .before .before .before .before .before .before .before .before .before .before .args .t1 .n) (c .before .before .before .before .before .before .before .before .before .before .args .t1 .cap) (c .before .before .before .before .before .before .before .before .before .before .args .frame .now) ≡ 0
@@ -54,7 +56,7 @@ hold-refusal-requires c κs =
     let f = c .before .before .before .before in
     let i = f .before .before in
     let s = i .before .before .before .before .before .before .before .before in (
-      checked-queue (s .args .t1) (s .args .queue .now) (kept i),
+      checked-queue (s .args .t1) (s .args .queue .now) false (kept i),
       record { n = s .args .t1 .n; cap = s .args .t1 .cap; few = kept i .sound .range .atMost12; passes = sound f },
     )
 
@@ -79,11 +81,11 @@ hold-requires c κs = let k = free (c .before) in (k .size, k .room, k .fits, k 
 add-next : tie.Need-add-next
 add-next c = let k = free (c .before .before .before .before) in record { fits = omega (arith, k .room) }
 
-cast-t24 : tie.Need-cast-t24
-cast-t24 c = let k = free (c .before .before .before .before) in record { fits = omega (arith, k .room) }
+cast-t26 : tie.Need-cast-t26
+cast-t26 c = let k = free (c .before .before .before .before) in record { fits = omega (arith, k .room) }
 
-add-t32 : tie.Need-add-t32
-add-t32 c = let k = free (c .before .before .before .before) in record { fits = omega (arith, k .room) }
+add-t33 : tie.Need-add-t33
+add-t33 c = let k = free (c .before .before .before .before) in record { fits = omega (arith, k .room) }
 
 same-length-4 : tie.Need-same-length-4
 same-length-4 c = search needs
@@ -117,7 +119,7 @@ offer-spec =
     cast-hold
     hold-requires
     add-next
-    cast-t24
-    add-t32
+    cast-t26
+    add-t33
     same-length-4
     returns-4)

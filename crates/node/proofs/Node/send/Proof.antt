@@ -21,8 +21,8 @@ returns c =
     let s = c .before .before .before .before .before .before .before in
     send-refused (s .args .t1) (s .args .to) (s .args .body .now) (s .args .out .now) _ (c .before .refusal .ensures) (c .if1 .taken)
 
-cast-t16 : tie.Need-cast-t16
-cast-t16 c =
+cast-t20 : tie.Need-cast-t20
+cast-t20 c =
     let k = passed-checks c in
     record { fits = omega (arith, k .destination, k .sound .range .atMost12) }
 
@@ -57,8 +57,8 @@ trim-requires c κs =
       cleared-limit (s .args .t1) (s .args .to) _ me to (k .sound .limit) (k .below (s .args .to) to) (l .clear-column .ensures),
     )
 
-cast-t18 : tie.Need-cast-t18
-cast-t18 c = search needs
+cast-t29 : tie.Need-cast-t29
+cast-t29 c = search needs
 
 same-length : tie.Need-same-length
 same-length c = search needs
@@ -82,11 +82,11 @@ send-spec =
     (tie.spec
     refusal-requires
     returns
-    cast-t16
+    cast-t20
     user-requires
     cast-clear-column
     clear-column-requires
     trim-requires
-    cast-t18
+    cast-t29
     same-length
     returns-2)
