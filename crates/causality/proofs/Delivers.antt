@@ -8,7 +8,7 @@ use mathlib.Core.Path.{_∙_, _≡_, ap, ap₂, refl, subst, sym}
 use native.Mathlib.Omega.{arith}
 use lib.Dec.{T, eqb, ltb}
 use lib.ListN.{getElem?, length}
-use Rattle.causality.proofs.Frames.{cut-nothing, issued-frames, trim-bare, trim-room}
+use Rattle.causality.proofs.Frames.{cut-nothing, issued-frames, trim-bare}
 use Rattle.causality.proofs.Matches.{Agrees}
 use Rattle.causality.proofs.Offers.{queue-passes, whole-back}
 use Rattle.causality.proofs.Queues.{Bodies, frames-back, queue-length}
@@ -31,6 +31,7 @@ use Rattle.protocol.proofs.Lists.{at-none}
 use Rattle.protocol.specs.Node.{atLimit}
 use Rattle.protocol.specs.Offer.{deliverable}
 use Rattle.wire.proofs.Bytes.{small-bytes}
+use Rattle.trim.proofs.Bounds.{trim-bytes}
 use Rattle.wire.proofs.Tests.{cond-no, cond-yes, decide, eq→eqb, le→nltb, not-or, T-not-not}
 use Rattle.wire.specs.Bytes.{AllBytes}
 use Rattle.protocol.specs.Deliver.{Search, absent, found, past, search, conclude, deliver, learn}
@@ -67,7 +68,7 @@ search-left p (a ∷ l) k m others e = go (decide (p a)) (search p l) refl (λ k
 -- what a delivery issues fits, and has no body
 learn-room : (k : Kind) (d : MessageNode) (e : Matrix) → length (framesOf ((learn k d e) .extras)) ≤ 1008
 unfolding framesOf
-learn-room user d e = trim-room 12 (d .me) (d .n) (d .cap) (merge (d .me) (d .matrix) e)
+learn-room user d e = trim-bytes 12 (d .me) (d .n) (d .cap) (merge (d .me) (d .matrix) e)
 learn-room extra d e = omega arith
 
 learn-bare : (k : Kind) (d : MessageNode) (e : Matrix) (p : ℕ) (f : Message) → getElem? ((learn k d e) .extras) p ≡ some f → f .body ≡ []

@@ -7,7 +7,7 @@ use mathlib.Core.Path.{_∙_, _≡_, ap, refl, subst, sym}
 use native.Mathlib.Omega.{arith}
 use lib.Dec.{T, ltb, ltb→lt, nltb→le}
 use lib.ListN.{getElem?, length}
-use Rattle.causality.proofs.Matches.{Matches, at-map, empty, encodeIssue, none-map}
+use Rattle.causality.proofs.Matches.{Matches, empty, encodeIssue}
 use Rattle.causality.proofs.Records.{range-T}
 use Rattle.causality.proofs.Steps.{deliver-matches, deliver-matches-short, forget, lentLess, offer-matches, send-matches, send-matches-short}
 use Rattle.causality.specs.Demand3.{BodiesOfBytes, Issue, Step, World, deliverAt, delivers, offerIssue, offers, run, sendAt, sends, start, step}
@@ -21,7 +21,7 @@ use Rattle.rules.specs.Rules.{inRange}
 use Rattle.node.specs.SetUp.{freshRecord, setUp}
 use Rattle.node.specs.declared.SetUp.{SetUp}
 use Rattle.protocol.proofs.Good.{Good}
-use Rattle.protocol.proofs.Lists.{at-none}
+use Rattle.protocol.proofs.Lists.{at-map, at-none, none-map}
 use Rattle.protocol.proofs.Runs.{run-length, step-good}
 use Rattle.protocol.specs.Node.{fresh}
 use Rattle.protocol.specs.Send.{send}

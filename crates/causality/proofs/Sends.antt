@@ -8,7 +8,7 @@ use mathlib.Core.Path.{_∙_, _≡_, ap, refl, subst, sym}
 use native.Mathlib.Omega.{arith}
 use lib.Dec.{T, eqb, ltb, lt→ltb, nltb→le}
 use lib.ListN.{getElem?, length}
-use Rattle.causality.proofs.Frames.{issued-frames, send-room, trim-bare, trim-room}
+use Rattle.causality.proofs.Frames.{issued-frames, send-room, trim-bare}
 use Rattle.causality.proofs.Matches.{Agrees}
 use Rattle.causality.proofs.Queues.{Bodies}
 use Rattle.causality.proofs.Records.{node-back, record-kept}
@@ -30,6 +30,7 @@ use Rattle.protocol.proofs.Grown.{nodeAt}
 use Rattle.protocol.specs.Node.{atLimit}
 use Rattle.protocol.specs.Send.{longBody, send, sending, sentMatrix, sentMessage}
 use Rattle.wire.proofs.Bytes.{small-bytes}
+use Rattle.trim.proofs.Bounds.{trim-bytes}
 use Rattle.wire.proofs.Tests.{cond-no, cond-yes, decide, le→nltb}
 use Rattle.wire.specs.Bytes.{AllBytes}
 use Rattle.wire.specs.Limits.{maxFrame}
@@ -117,7 +118,7 @@ module _ (n cap : ℕ) (w : messages.World) (g : Good n (λ i. cap) w) (few : le
         node = refl;
         queue = refl;
         answer = record { acceptance = refl; names = refl; taken = refl; given = refl };
-        frames = issued-frames out issues (omega (arith, send-room (sentMessage d to body) (user-fits to body short) extras (trim-room 12 i n cap (clear i to (w .nodes i .matrix)))));
+        frames = issued-frames out issues (omega (arith, send-room (sentMessage d to body) (user-fits to body short) extras (trim-bytes 12 i n cap (clear i to (w .nodes i .matrix)))));
         bodies = all-bytes;
       }))
     where
