@@ -9,20 +9,24 @@ use Rattle.node.proofs.Shared.{RecordPassed, checked-queue, record-pass
 use Rattle.node.proofs.Node.offer.Statement.{statement}
 use Rattle.node.proofs.Node.offer.Tie as tie
 
+-- the call's start
+abbrev start : tie.After-record-refusal → tie.Start
+start c = c .before .before .before .before .before .before .before
+
 -- what record and queue keep once their checks are passed
-kept : (c : tie.Else1) → RecordPassed (c .before .before .before .before .before .before .before .before .args .t1) (c .before .before .before .before .before .before .before .before .args .queue .now) false
+kept : (c : tie.Else1) → RecordPassed (start (c .before) .args .t1) (start (c .before) .args .queue .now) false
 kept c = record-passed _ _ _ _ (sym (c .before .record-refusal .ensures) ∙ c .if1 .left)
 
 -- the frame is sound once its checks are passed
-sound : (c : tie.Else2) → frameRefusal (c .before .before .before .before .before .before .before .before .before .before .args .t1 .n) (c .before .before .before .before .before .before .before .before .before .before .args .t1 .cap) (c .before .before .before .before .before .before .before .before .before .before .args .frame .now) ≡ 0
+sound : (c : tie.Else2) → frameRefusal (start (c .before .before .before) .args .t1 .n) (start (c .before .before .before) .args .t1 .cap) (start (c .before .before .before) .args .frame .now) ≡ 0
 sound c = sym (c .before .refusal .ensures) ∙ c .if2 .left
 
 -- there is a free slot once no check is met
-free : (c : tie.Else3) → Holdable (c .before .before .before .before .before .before .before .before .before .before .before .before .before .before .before .before .before .args .t1) (c .before .before .before .before .before .before .before .before .before .before .before .before .before .before .before .before .before .args .frame .now) (c .before .before .before .before .before .before .before .before .before .before .before .before .before .before .before .before .before .args .queue .now)
+free : (c : tie.Else3) → Holdable (start (c .before .before .before .before .before .before .before .before .before .before) .args .t1) (start (c .before .before .before .before .before .before .before .before .before .before) .args .frame .now) (start (c .before .before .before .before .before .before .before .before .before .before) .args .queue .now)
 free c =
     let v = c .before .before in
     let f = v .before .before .before .before .before in
-    let r = f .before .before .before .before .before .before .before .before .before .before .args .t1 in
+    let r = start (f .before .before .before) .args .t1 in
     holdable r _ _ (kept (f .before .before)) (sound f) (sym (v .hold-refusal .ensures (r .n) (r .cap) .0) ∙ c .if3 .left)
 
 record-refusal-requires : tie.Need-record-refusal-requires
@@ -33,7 +37,7 @@ same-length c = search needs
 
 returns : tie.Need-returns
 returns c =
-    let s = c .before .before .before .before .before .before .before .before in
+    let s = start (c .before) in
     offer-refused (s .args .t1) (s .args .frame .now) (s .args .queue .now) _ (offer-record (s .args .t1) (s .args .frame .now) (s .args .queue .now) _ (c .before .record-refusal .ensures) (c .if1 .taken)) (c .if1 .taken)
 
 refusal-requires : tie.Need-refusal-requires
@@ -45,7 +49,7 @@ same-length-2 c = search needs
 returns-2 : tie.Need-returns-2
 returns-2 c =
     let i = c .before .before in
-    let s = i .before .before .before .before .before .before .before .before in
+    let s = start (i .before) in
     offer-refused (s .args .t1) (s .args .frame .now) (s .args .queue .now) _ (offer-frame (s .args .t1) (s .args .frame .now) (s .args .queue .now) (kept i) _ (c .before .refusal .ensures) (c .if2 .taken)) (c .if2 .taken)
 
 cast-hold-refusal : tie.Need-cast-hold-refusal
@@ -55,7 +59,7 @@ hold-refusal-requires : tie.Need-hold-refusal-requires
 hold-refusal-requires c κs =
     let f = c .before .before .before .before in
     let i = f .before .before in
-    let s = i .before .before .before .before .before .before .before .before in (
+    let s = start (i .before) in (
       checked-queue (s .args .t1) (s .args .queue .now) false (kept i),
       record { n = s .args .t1 .n; cap = s .args .t1 .cap; few = kept i .sound .range .atMost12; passes = sound f },
     )
@@ -68,7 +72,7 @@ returns-3 c =
     let v = c .before .before in
     let f = v .before .before .before .before .before in
     let i = f .before .before in
-    let s = i .before .before .before .before .before .before .before .before in
+    let s = start (i .before) in
     let r = s .args .t1 in
     offer-refused r (s .args .frame .now) (s .args .queue .now) _ (v .hold-refusal .ensures (r .n) (r .cap) .0 ∙ sym (offer-hold r (s .args .frame .now) (s .args .queue .now) (kept i) (sound f))) (c .if3 .taken)
 
@@ -96,7 +100,7 @@ returns-4 c =
     let v = e .before .before in
     let f = v .before .before .before .before .before in
     let i = f .before .before in
-    let s = i .before .before .before .before .before .before .before .before in
+    let s = start (i .before) in
     let r = s .args .t1 in
     let w = v .hold-refusal .ensures (r .n) (r .cap) in
     offer-leaves r (s .args .frame .now) (s .args .queue .now) _ _ _ (c .before .before .hold .ensures) (w .1 (e .if3 .left)) refl
