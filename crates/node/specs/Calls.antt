@@ -1,7 +1,7 @@
 -- The calls on record and bytes: checks in rising order, the first that is met given; then what the protocol does on messages, written back.
 -- A refusal hands back the same record and the same bytes.
-use Prim.Native.Nat.{ℕ, suc, _-_}
-use mathlib.Core.Bool.{Bool, true, false, not, cond, _||_}
+use Prim.Native.Nat.{ℕ, _-_}
+use mathlib.Core.Bool.{Bool, false, not, cond, _||_}
 use mathlib.Core.List.{List, [], _∷_, _++_}
 use mathlib.Core.Option.{Option, none, some}
 use lib.Dec.{eqb, ltb}
@@ -9,7 +9,7 @@ use lib.ListN.{length}
 use Rattle.wire.specs.Limits.{maxBody}
 use Rattle.wire.specs.Bytes.{put}
 use Rattle.matrix.specs.Array.{listFrom, flat}
-use Rattle.matrix.specs.Message.{Kind, Message}
+use Rattle.matrix.specs.Message.{Message}
 use Rattle.frame.specs.Header.{kindByte}
 use Rattle.frame.specs.Frame.{decode}
 use Rattle.frame.specs.Frames.{framesOf}
