@@ -1,0 +1,9 @@
+-- Laws of `world`: frames in a log, what a call's answer tells, worlds that a list leads to, and a world that stays stored.
+pub mod Logs
+pub mod Told
+pub mod Reach
+pub mod Keeping
+pub mod Queues
+pub mod Sends
+pub mod Offers
+pub mod Delivers
