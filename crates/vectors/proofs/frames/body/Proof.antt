@@ -1,0 +1,118 @@
+use Prim.Native.Nat.{ℕ, _+_, _-_, _*_, _%_, _/_, _≤_, _<_}
+use mathlib.Core.Path.{_≡_, refl, sym, _∙_, ap}
+use mathlib.Core.Logic.{⊎-elim}
+use native.Mathlib.Omega.{arith}
+use borrow.Author.Needs.{needs}
+use lib.ListN.{length, getD, length-set}
+use lib.Seq.{length-take-le}
+use Rattle.vectors.proofs.frames.body.Statement.{statement}
+use Rattle.vectors.proofs.frames.body.Tie as tie
+use Rattle.vectors.proofs.frames.body.Reads as reads
+use Rattle.vectors.proofs.frames.body.Lts as lts
+use Rattle.vectors.proofs.state.byte_at.Reads as byte-at-reads
+use Rattle.vectors.proofs.state.put_byte.Reads as put-byte-reads
+use Rattle.vectors.proofs.text.least.Reads as least-reads
+use Rattle.vectors.proofs.text.wide.Reads as wide-reads
+
+abbrev Inv-loop : tie.InvT-loop
+Inv-loop current₀ z b n a i₀ current i = (i ≤ b) × (length current ≡ length current₀)
+
+abbrev μ-loop : tie.MeasureT-loop
+μ-loop current₀ z b n a i₀ current i = b - i
+
+-- src/frames.rt:29:24
+byte-at-requires : tie.Need-byte-at-requires Inv-loop μ-loop
+byte-at-requires c κs = search needs
+
+-- src/frames.rt:29:13
+wide-requires : tie.Need-wide-requires Inv-loop μ-loop
+wide-requires c κs = search needs
+
+-- src/frames.rt:30:9
+least-requires : tie.Need-least-requires Inv-loop μ-loop
+least-requires c κs = search needs
+
+-- src/frames.rt:31:12
+add-if1 : tie.Need-add-if1 Inv-loop μ-loop
+add-if1 c = search needs
+
+-- src/frames.rt:32:9
+same-length : tie.Need-same-length Inv-loop μ-loop
+same-length c = search needs
+
+-- src/frames.rt:32:9
+returns : tie.Need-returns Inv-loop μ-loop
+returns c = search needs
+
+-- src/frames.rt:34:13
+sub-a : tie.Need-sub-a Inv-loop μ-loop
+sub-a c = search needs
+
+-- src/frames.rt:34:13
+sub-a-2 : tie.Need-sub-a-2 Inv-loop μ-loop
+sub-a-2 c = search needs
+
+-- src/frames.rt:36:5
+loop-holds : tie.Need-loop-holds Inv-loop μ-loop
+loop-holds c = search needs
+
+-- src/frames.rt:37:34
+add-put-byte : tie.Need-add-put-byte Inv-loop μ-loop
+add-put-byte c = search needs
+
+-- src/frames.rt:37:43
+add-put-byte-2 : tie.Need-add-put-byte-2 Inv-loop μ-loop
+add-put-byte-2 c = search needs
+
+-- src/frames.rt:37:41
+cast-put-byte : tie.Need-cast-put-byte Inv-loop μ-loop
+cast-put-byte c = search needs
+
+-- src/frames.rt:37:9
+put-byte-requires : tie.Need-put-byte-requires Inv-loop μ-loop
+put-byte-requires c κs = search needs
+
+-- src/frames.rt:38:9
+add-i : tie.Need-add-i Inv-loop μ-loop
+add-i c = search needs
+
+-- src/frames.rt:36:5
+loop-less : tie.Need-loop-less Inv-loop μ-loop
+loop-less c = search needs
+
+-- src/frames.rt:36:5
+loop-again : tie.Need-loop-again Inv-loop μ-loop
+loop-again c = search needs
+
+-- src/frames.rt:28:1
+same-length-2 : tie.Need-same-length-2 Inv-loop μ-loop
+same-length-2 c = search needs
+
+-- src/frames.rt:28:1
+returns-2 : tie.Need-returns-2 Inv-loop μ-loop
+returns-2 c = search needs
+
+pub body-spec : {M : Type 1} → statement M
+body-spec =
+    tie.close
+    (tie.spec
+    Inv-loop
+    μ-loop
+    byte-at-requires
+    wide-requires
+    least-requires
+    add-if1
+    same-length
+    returns
+    sub-a
+    sub-a-2
+    loop-holds
+    add-put-byte
+    add-put-byte-2
+    cast-put-byte
+    put-byte-requires
+    add-i
+    loop-less
+    loop-again
+    same-length-2
+    returns-2)

@@ -1,0 +1,222 @@
+//! Worked examples of the node, run through its compiled calls. Standard input is a script with one command to a line; each line is printed as it stands, and below it, indented by two spaces, what the command shows. A second implementation can run the same script.
+//!
+//! There are twelve records and twelve queues, numbered from 0, a log of issued frames, numbered from 1, and one frame at hand. All are zero and empty at first.
+//!
+//! - `# text`: a comment.
+//! - `Z`: everything as at first.
+//! - `U k me n cap`: set-up into record k.
+//! - `S k to b o`: send from record k to node `to`, with a body of b bytes (O, P, Q and so on) and an output of o bytes. Issued frames go into the log.
+//! - `O k q`: offer of the frame at hand at record k, with queue k cut to q bytes.
+//! - `D k q o b`: deliver at record k, with queue k cut to q bytes, an output of o and a body output of b bytes. Issued frames go into the log.
+//! - `R k` and `K k`: print record k, and the slots of queue k that are not all zero.
+//! - `I k me n cap held`, `M k x y v`, `V k x v`: write me, n, cap and held of record k; M\[x,y\]; DELIV\[x\].
+//! - `A k y a b v`: write v at M\[x,y\] of record k for each row x from a to b but y.
+//! - `Q k p v`: write byte p of queue k. `P k p`: put the frame at hand into slot p of queue k, with zeros behind it.
+//! - `F i`: take issue i of the log as the frame at hand.
+//! - `X kind from to e b n cap`: a new frame at hand: this header, e entries of zeros, a body of b bytes, a trailer of zeros. `E i row column value`: write its entry i, from 0.
+//! - `B p v`: write byte p of the frame at hand. `L z`: make it z bytes long. `T`: write its trailer anew, and print it.
+//!
+//! A frame is printed in base 16: header, entries, body and trailer parted by spaces. A refusal is printed with `all kept` where record and lent buffers are as they were, and with `CHANGED` otherwise; an answer whose call wrote more than it counts is marked `MORE WRITTEN`.
+mod calls;
+mod frames;
+mod show;
+mod state;
+mod text;
+
+// Zeros.
+fn clear_counts(s: &mut [u32]) {
+    let mut i: usize = 0;
+    while i < s.len() {
+        s[i] = 0;
+        i += 1;
+    }
+}
+
+// Everything as at first.
+fn reset(
+    records: &mut [u32],
+    queues: &mut [u8],
+    log: &mut [u8],
+    current: &mut [u8],
+    vars: &mut [usize],
+) {
+    clear_counts(records);
+    frames::clear(queues);
+    frames::clear(log);
+    frames::clear(current);
+    state::put_number(vars, 0, 0);
+    state::put_number(vars, 1, 0);
+}
+
+// Writes the small numbers of record k.
+fn small(records: &mut [u32], line: &[u8], k: usize) {
+    let a = state::record_start(k);
+    state::put_count(records, a, text::field32(line, 2));
+    state::put_count(records, a + 1, text::field32(line, 3));
+    state::put_count(records, a + 2, text::field32(line, 4));
+    state::put_count(records, a + 3, text::field32(line, 5));
+}
+
+// Writes M[x,y] of record k.
+fn matrix(records: &mut [u32], line: &[u8], k: usize) {
+    let x = text::field(line, 2) % 12;
+    let y = text::field(line, 3) % 12;
+    state::put_count(
+        records,
+        state::record_start(k) + 4 + 12 * x + y,
+        text::field32(line, 4),
+    );
+}
+
+// Writes v at M[x,y] of record k, off the diagonal.
+fn put_entry(records: &mut [u32], k: usize, x: usize, y: usize, v: u32) {
+    if x % 12 != y % 12 {
+        state::put_count(
+            records,
+            state::record_start(k) + 4 + 12 * (x % 12) + y % 12,
+            v,
+        );
+    }
+}
+
+// Writes rows of a column of record k, off the diagonal.
+fn column(records: &mut [u32], line: &[u8], k: usize) {
+    let y = text::field(line, 2);
+    let last = text::least(text::field(line, 4), 11);
+    let v = text::field32(line, 5);
+    let mut x = text::field(line, 3);
+    while x <= last {
+        put_entry(records, k, x, y, v);
+        x += 1;
+    }
+}
+
+// Writes DELIV[x] of record k.
+fn vector(records: &mut [u32], line: &[u8], k: usize) {
+    let x = text::field(line, 2) % 12;
+    state::put_count(
+        records,
+        state::record_start(k) + 148 + x,
+        text::field32(line, 3),
+    );
+}
+
+// A command on records and queues: the calls, what is printed of them, and what is written to them.
+fn record_command(
+    line: &[u8],
+    records: &mut [u32],
+    queues: &mut [u8],
+    log: &mut [u8],
+    current: &[u8],
+    vars: &mut [usize],
+) {
+    let k = text::field(line, 1);
+    let a = text::field(line, 2);
+    let b = text::field(line, 3);
+    let c = text::field(line, 4);
+    let z = state::number_at(vars, 1);
+    let what = text::letter(line);
+    match what {
+        b'U' => calls::set_up(records, k, a, b, c),
+        b'S' => calls::send(records, log, vars, k, a, b, c),
+        b'O' => calls::offer(records, queues, current, z, k, a),
+        b'D' => calls::deliver(records, queues, log, vars, k, a, b, c),
+        b'R' => show::show_record(state::load(records, k)),
+        b'K' => show::show_queue(queues, k),
+        b'I' => small(records, line, k),
+        b'M' => matrix(records, line, k),
+        b'A' => column(records, line, k),
+        b'V' => vector(records, line, k),
+        b'Q' => state::put_byte(
+            queues,
+            state::queue_start(k) + text::least(a, 12839),
+            text::field8(line, 3),
+        ),
+        b'P' => frames::place(queues, current, z, k, a),
+        _ => (),
+    }
+}
+
+// A command on the frame at hand.
+fn frame_command(line: &[u8], log: &[u8], current: &mut [u8], vars: &mut [usize]) {
+    let a = text::field(line, 1);
+    let z = text::least(state::number_at(vars, 1), current.len());
+    let what = text::letter(line);
+    match what {
+        b'F' => frames::take(current, vars, log, a),
+        b'X' => frames::make(current, vars, line),
+        b'E' => frames::entry(
+            current,
+            a,
+            text::field8(line, 2),
+            text::field8(line, 3),
+            text::field32(line, 4),
+        ),
+        b'B' => state::put_byte(current, a, text::field8(line, 2)),
+        b'L' => state::put_number(vars, 1, a),
+        b'T' => frames::close(current, z),
+        _ => (),
+    }
+}
+
+// Prints a line and runs its command.
+fn run(
+    line: &[u8],
+    records: &mut [u32],
+    queues: &mut [u8],
+    log: &mut [u8],
+    current: &mut [u8],
+    vars: &mut [usize],
+) {
+    text::say(line);
+    text::say(b"\n");
+    let what = text::letter(line);
+    if what == b'Z' {
+        reset(records, queues, log, current, vars);
+        return;
+    }
+    record_command(line, records, queues, log, current, vars);
+    frame_command(line, log, current, vars);
+    if what == b'T' {
+        frames::print(current, state::number_at(vars, 1));
+    }
+}
+
+// Runs each line of a script.
+fn script(
+    input: &[u8],
+    records: &mut [u32],
+    queues: &mut [u8],
+    log: &mut [u8],
+    current: &mut [u8],
+    vars: &mut [usize],
+) {
+    let mut start: usize = 0;
+    let mut i: usize = 0;
+    while i < input.len() {
+        let at = i;
+        i += 1;
+        if input[at] == b'\n' {
+            run(&input[start..at], records, queues, log, current, vars);
+            start = i;
+        }
+    }
+}
+
+fn main() {
+    let mut input = io::large_buffer();
+    let n = io::read_full(0, &mut input);
+    let mut records = [0u32; 1920];
+    let mut queues = [0u8; 154080];
+    let mut log = [0u8; 102656];
+    let mut current = [0u8; 1100];
+    let mut vars = [0usize; 2];
+    script(
+        &input[..n],
+        &mut records,
+        &mut queues,
+        &mut log,
+        &mut current,
+        &mut vars,
+    );
+}
