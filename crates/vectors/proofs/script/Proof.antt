@@ -1,15 +1,10 @@
-use Prim.Native.Nat.{ℕ, _+_, _-_, _*_, _%_, _/_, _≤_, _<_}
-use mathlib.Core.Path.{_≡_, refl, sym, _∙_, ap}
-use mathlib.Core.Logic.{⊎-elim}
-use native.Mathlib.Omega.{arith}
+-- Each index of the loop is within its bounds, and the loop ends. Assumes nothing.
+use Prim.Native.Nat.{_-_, _≤_}
+use mathlib.Core.Path.{_≡_}
 use borrow.Author.Needs.{needs}
-use lib.ListN.{length, getD, length-set}
-use lib.Seq.{length-take-le}
+use lib.ListN.{length}
 use Rattle.vectors.proofs.script.Statement.{statement}
 use Rattle.vectors.proofs.script.Tie as tie
-use Rattle.vectors.proofs.script.Reads as reads
-use Rattle.vectors.proofs.script.Lts as lts
-use Rattle.vectors.proofs.run.Reads as run-reads
 
 abbrev Inv-loop : tie.InvT-loop
 Inv-loop input records₀ queues₀ log₀ current₀ vars₀ start₀ i₀ records queues log current vars start i = (start ≤ i) × (i ≤ length input) × (length records ≡ length records₀) × (length queues ≡ length queues₀) × (length log ≡ length log₀) × (length current ≡ length current₀) × (length vars ≡ length vars₀)
@@ -17,71 +12,54 @@ Inv-loop input records₀ queues₀ log₀ current₀ vars₀ start₀ i₀ reco
 abbrev μ-loop : tie.MeasureT-loop
 μ-loop input records₀ queues₀ log₀ current₀ vars₀ start₀ i₀ records queues log current vars start i = length input - i
 
--- src/main.rt:171:5
 loop-holds : tie.Need-loop-holds Inv-loop μ-loop
 loop-holds c = search needs
 
--- src/main.rt:173:9
 add-i : tie.Need-add-i Inv-loop μ-loop
 add-i c = search needs
 
--- src/main.rt:174:12
 shared-slice-read-if1 : tie.Need-shared-slice-read-if1 Inv-loop μ-loop
 shared-slice-read-if1 c = search needs
 
--- src/main.rt:175:17
 sub-run : tie.Need-sub-run Inv-loop μ-loop
 sub-run c = search needs
 
--- src/main.rt:175:17
 part-run-start : tie.Need-part-run-start Inv-loop μ-loop
 part-run-start c = search needs
 
--- src/main.rt:175:17
 part-run-end : tie.Need-part-run-end Inv-loop μ-loop
 part-run-end c = search needs
 
--- src/main.rt:175:13
 run-requires : tie.Need-run-requires Inv-loop μ-loop
 run-requires c κs = search needs
 
--- src/main.rt:171:5
 loop-less : tie.Need-loop-less Inv-loop μ-loop
 loop-less c = search needs
 
--- src/main.rt:171:5
 loop-again : tie.Need-loop-again Inv-loop μ-loop
 loop-again c = search needs
 
--- src/main.rt:171:5
 loop-less-2 : tie.Need-loop-less-2 Inv-loop μ-loop
 loop-less-2 c = search needs
 
--- src/main.rt:171:5
 loop-again-2 : tie.Need-loop-again-2 Inv-loop μ-loop
 loop-again-2 c = search needs
 
--- src/main.rt:161:1
 same-length : tie.Need-same-length Inv-loop μ-loop
 same-length c = search needs
 
--- src/main.rt:161:1
 same-length-2 : tie.Need-same-length-2 Inv-loop μ-loop
 same-length-2 c = search needs
 
--- src/main.rt:161:1
 same-length-3 : tie.Need-same-length-3 Inv-loop μ-loop
 same-length-3 c = search needs
 
--- src/main.rt:161:1
 same-length-4 : tie.Need-same-length-4 Inv-loop μ-loop
 same-length-4 c = search needs
 
--- src/main.rt:161:1
 same-length-5 : tie.Need-same-length-5 Inv-loop μ-loop
 same-length-5 c = search needs
 
--- src/main.rt:161:1
 returns : tie.Need-returns Inv-loop μ-loop
 returns c = search needs
 

@@ -1,18 +1,10 @@
-use Prim.Native.Nat.{ℕ, _+_, _-_, _*_, _%_, _/_, _≤_, _<_}
-use mathlib.Core.Path.{_≡_, refl, sym, _∙_, ap}
-use mathlib.Core.Logic.{⊎-elim}
-use native.Mathlib.Omega.{arith}
+-- Each index of the loop is within its bounds, and the loop ends. Assumes nothing.
+use Prim.Native.Nat.{_-_, _≤_}
+use mathlib.Core.Path.{_≡_}
 use borrow.Author.Needs.{needs}
-use lib.ListN.{length, getD, length-set}
-use lib.Seq.{length-take-le}
+use lib.ListN.{length}
 use Rattle.vectors.proofs.frames.body.Statement.{statement}
 use Rattle.vectors.proofs.frames.body.Tie as tie
-use Rattle.vectors.proofs.frames.body.Reads as reads
-use Rattle.vectors.proofs.frames.body.Lts as lts
-use Rattle.vectors.proofs.state.byte_at.Reads as byte-at-reads
-use Rattle.vectors.proofs.state.put_byte.Reads as put-byte-reads
-use Rattle.vectors.proofs.text.least.Reads as least-reads
-use Rattle.vectors.proofs.text.wide.Reads as wide-reads
 
 abbrev Inv-loop : tie.InvT-loop
 Inv-loop current₀ z b n a i₀ current i = (i ≤ b) × (length current ≡ length current₀)
@@ -20,75 +12,57 @@ Inv-loop current₀ z b n a i₀ current i = (i ≤ b) × (length current ≡ le
 abbrev μ-loop : tie.MeasureT-loop
 μ-loop current₀ z b n a i₀ current i = b - i
 
--- src/frames.rt:29:24
 byte-at-requires : tie.Need-byte-at-requires Inv-loop μ-loop
 byte-at-requires c κs = search needs
 
--- src/frames.rt:29:13
 wide-requires : tie.Need-wide-requires Inv-loop μ-loop
 wide-requires c κs = search needs
 
--- src/frames.rt:30:9
 least-requires : tie.Need-least-requires Inv-loop μ-loop
 least-requires c κs = search needs
 
--- src/frames.rt:31:12
 add-if1 : tie.Need-add-if1 Inv-loop μ-loop
 add-if1 c = search needs
 
--- src/frames.rt:32:9
 same-length : tie.Need-same-length Inv-loop μ-loop
 same-length c = search needs
 
--- src/frames.rt:32:9
 returns : tie.Need-returns Inv-loop μ-loop
 returns c = search needs
 
--- src/frames.rt:34:13
 sub-a : tie.Need-sub-a Inv-loop μ-loop
 sub-a c = search needs
 
--- src/frames.rt:34:13
 sub-a-2 : tie.Need-sub-a-2 Inv-loop μ-loop
 sub-a-2 c = search needs
 
--- src/frames.rt:36:5
 loop-holds : tie.Need-loop-holds Inv-loop μ-loop
 loop-holds c = search needs
 
--- src/frames.rt:37:34
 add-put-byte : tie.Need-add-put-byte Inv-loop μ-loop
 add-put-byte c = search needs
 
--- src/frames.rt:37:43
 add-put-byte-2 : tie.Need-add-put-byte-2 Inv-loop μ-loop
 add-put-byte-2 c = search needs
 
--- src/frames.rt:37:41
 cast-put-byte : tie.Need-cast-put-byte Inv-loop μ-loop
 cast-put-byte c = search needs
 
--- src/frames.rt:37:9
 put-byte-requires : tie.Need-put-byte-requires Inv-loop μ-loop
 put-byte-requires c κs = search needs
 
--- src/frames.rt:38:9
 add-i : tie.Need-add-i Inv-loop μ-loop
 add-i c = search needs
 
--- src/frames.rt:36:5
 loop-less : tie.Need-loop-less Inv-loop μ-loop
 loop-less c = search needs
 
--- src/frames.rt:36:5
 loop-again : tie.Need-loop-again Inv-loop μ-loop
 loop-again c = search needs
 
--- src/frames.rt:28:1
 same-length-2 : tie.Need-same-length-2 Inv-loop μ-loop
 same-length-2 c = search needs
 
--- src/frames.rt:28:1
 returns-2 : tie.Need-returns-2 Inv-loop μ-loop
 returns-2 c = search needs
 
