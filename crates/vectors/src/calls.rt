@@ -17,15 +17,14 @@ pub fn set_up(records: &mut [u32], k: usize, me: usize, n: usize, cap: usize) {
     state::store(records, k, r.node);
     let answer = r.answer;
     match answer {
-        SetUpAnswer::Refused(why) => text::say_number(b"  refused ", text::wide(why)),
-        SetUpAnswer::Ready => text::say(b"  ready"),
+        SetUpAnswer::Refused(why) => text::print(b"  refused %\n", &[text::wide(why)]),
+        SetUpAnswer::Ready => text::say(b"  ready\n"),
     }
-    text::say(b"\n");
 }
 
 // Prints a refusal, and whether record and buffers are as they were.
 fn refused(why: u8, kept: bool) {
-    text::say_number(b"  refused ", text::wide(why));
+    text::print(b"  refused %", &[text::wide(why)]);
     if kept {
         text::say(b", all kept\n");
     } else {
@@ -79,8 +78,7 @@ fn log_frame(log: &mut [u8], vars: &mut [usize], s: &[u8]) {
     let i = state::number_at(vars, 0) % 128;
     state::put_number(vars, 0, i + 1);
     state::paste(log, i * 802, s);
-    text::say_number(b"  ", i + 1);
-    text::say(b": ");
+    text::print(b"  %: ", &[i + 1]);
     print_frame(s);
 }
 
@@ -130,8 +128,7 @@ pub fn send(
             );
         }
         SendAnswer::Sent { bytes, extras } => {
-            text::say_number(b"  sent: bytes ", bytes);
-            text::say_number(b", extras ", extras);
+            text::print(b"  sent: bytes %, extras %", &[bytes, extras]);
             end(state::filled(&out, bytes, 165));
             log_frames(log, vars, &out, bytes);
         }
@@ -172,11 +169,10 @@ pub fn offer(records: &mut [u32], queues: &mut [u8], current: &[u8], z: usize, k
 
 // Prints that a frame is held.
 fn held(count: usize, ready: bool) {
-    text::say_number(b"  held: ", count);
     if ready {
-        text::say(b", deliverable\n");
+        text::print(b"  held: %, deliverable\n", &[count]);
     } else {
-        text::say(b", waits\n");
+        text::print(b"  held: %, waits\n", &[count]);
     }
 }
 
@@ -187,12 +183,17 @@ fn delivered(log: &mut [u8], vars: &mut [usize], d: Delivered, out: &[u8], body:
     } else {
         text::say(b"  delivered: extra");
     }
-    text::say_number(b" from ", text::wide(d.from));
-    text::say_number(b", number ", text::wide32(d.number));
-    text::say_number(b", tried ", d.tried);
-    text::say_number(b", body ", d.body);
-    text::say_number(b", bytes ", d.bytes);
-    text::say_number(b", extras ", d.extras);
+    text::print(
+        b" from %, number %, tried %, body %, bytes %, extras %",
+        &[
+            text::wide(d.from),
+            text::wide32(d.number),
+            d.tried,
+            d.body,
+            d.bytes,
+            d.extras,
+        ],
+    );
     end(state::filled(out, d.bytes, 165) && state::filled(body, d.body, 165));
     if 0 < d.body {
         text::say(b"  body: ");
@@ -264,7 +265,7 @@ fn print_delivery(
             );
         }
         DeliverAnswer::Nothing(tried) => {
-            text::say_number(b"  none: tried ", tried);
+            text::print(b"  none: tried %", &[tried]);
             end(kept && state::filled(out, 0, 165) && state::filled(body, 0, 165));
         }
         DeliverAnswer::Frame(d) => delivered(log, vars, d, out, body),

@@ -2,12 +2,12 @@
 use super::state;
 use super::text;
 
-/// Clears the frame at hand and writes its header: kind, from, to, e, b, n, cap, from field 1 of the line on. Its body is O, P, Q and so on.
-pub fn make(current: &mut [u8], vars: &mut [usize], line: &[u8]) {
+/// Clears the frame at hand and writes its header: kind, from, to, e, b, n, cap, from field 1 on. Its body is O, P, Q and so on.
+pub fn make(current: &mut [u8], vars: &mut [usize], f: [usize; 8]) {
     clear(current);
     let mut i: usize = 0;
     while i < 7 {
-        state::put_byte(current, i, text::field8(line, i + 1));
+        state::put_byte(current, i, text::byte(f[i + 1]));
         i += 1;
     }
     let z = state::frame_length(current, 0);
@@ -39,15 +39,18 @@ fn body(current: &mut [u8], z: usize) {
     }
 }
 
-/// Writes entry i of the frame at hand: row, column and value, four bytes.
+/// Writes six bytes of the frame at hand, its entry i: row, column and value.
 pub fn entry(current: &mut [u8], i: usize, row: u8, column: u8, value: u32) {
     let a = 8 + 6 * text::least(i, 255);
-    state::put_byte(current, a, row);
-    state::put_byte(current, a + 1, column);
-    state::put_byte(current, a + 2, (value % 256) as u8);
-    state::put_byte(current, a + 3, (value / 256 % 256) as u8);
-    state::put_byte(current, a + 4, (value / 65536 % 256) as u8);
-    state::put_byte(current, a + 5, (value / 16777216 % 256) as u8);
+    let bytes = [
+        row,
+        column,
+        (value % 256) as u8,
+        (value / 256 % 256) as u8,
+        (value / 65536 % 256) as u8,
+        (value / 16777216 % 256) as u8,
+    ];
+    state::paste(current, a, &bytes);
 }
 
 // The sum of the first z bytes, modulo 65,536.
@@ -67,11 +70,13 @@ pub fn close(current: &mut [u8], z: usize) {
         return;
     }
     let a = z - 4;
-    state::put_byte(current, a, (a % 256) as u8);
-    state::put_byte(current, a + 1, (a / 256 % 256) as u8);
+    state::paste(current, a, &[(a % 256) as u8, (a / 256 % 256) as u8]);
     let total = sum(current, a + 2);
-    state::put_byte(current, a + 2, (total % 256) as u8);
-    state::put_byte(current, a + 3, (total / 256 % 256) as u8);
+    state::paste(
+        current,
+        a + 2,
+        &[(total % 256) as u8, (total / 256 % 256) as u8],
+    );
 }
 
 /// Takes issue i of the log, counted from 1, as the frame at hand.

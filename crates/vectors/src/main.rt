@@ -49,112 +49,117 @@ fn reset(
 }
 
 // Writes the small numbers of record k.
-fn small(records: &mut [u32], line: &[u8], k: usize) {
-    let a = state::record_start(k);
-    state::put_count(records, a, text::field32(line, 2));
-    state::put_count(records, a + 1, text::field32(line, 3));
-    state::put_count(records, a + 2, text::field32(line, 4));
-    state::put_count(records, a + 3, text::field32(line, 5));
+fn small(records: &mut [u32], k: usize, f: [usize; 8]) {
+    let s = [
+        text::count(f[2]),
+        text::count(f[3]),
+        text::count(f[4]),
+        text::count(f[5]),
+    ];
+    state::put_counts(records, state::record_start(k), &s);
 }
 
-// Writes M[x,y] of record k.
-fn matrix(records: &mut [u32], line: &[u8], k: usize) {
-    let x = text::field(line, 2) % 12;
-    let y = text::field(line, 3) % 12;
-    state::put_count(
-        records,
-        state::record_start(k) + 4 + 12 * x + y,
-        text::field32(line, 4),
-    );
+// Writes v at M[x,y] of record k.
+fn entry(records: &mut [u32], k: usize, x: usize, y: usize, v: usize) {
+    let a = state::record_start(k) + 4 + 12 * (x % 12) + y % 12;
+    state::put_count(records, a, text::count(v));
 }
 
-// Writes v at M[x,y] of record k, off the diagonal.
-fn put_entry(records: &mut [u32], k: usize, x: usize, y: usize, v: u32) {
-    if x % 12 != y % 12 {
-        state::put_count(
-            records,
-            state::record_start(k) + 4 + 12 * (x % 12) + y % 12,
-            v,
-        );
+// The same where x is not y.
+fn entry_off(records: &mut [u32], k: usize, x: usize, y: usize, v: usize) {
+    if x != y {
+        entry(records, k, x, y, v);
     }
 }
 
-// Writes rows of a column of record k, off the diagonal.
-fn column(records: &mut [u32], line: &[u8], k: usize) {
-    let y = text::field(line, 2);
-    let last = text::least(text::field(line, 4), 11);
-    let v = text::field32(line, 5);
-    let mut x = text::field(line, 3);
+// Writes v at M[x,y] of record k for each row x from a to b but y.
+fn column(records: &mut [u32], k: usize, y: usize, a: usize, b: usize, v: usize) {
+    let last = text::least(b, 11);
+    let mut x = a;
     while x <= last {
-        put_entry(records, k, x, y, v);
+        entry_off(records, k, x, y, v);
         x += 1;
     }
 }
 
-// Writes DELIV[x] of record k.
-fn vector(records: &mut [u32], line: &[u8], k: usize) {
-    let x = text::field(line, 2) % 12;
-    state::put_count(
-        records,
-        state::record_start(k) + 148 + x,
-        text::field32(line, 3),
-    );
+// Writes v at DELIV[x] of record k.
+fn vector(records: &mut [u32], k: usize, x: usize, v: usize) {
+    let a = state::record_start(k) + 148 + x % 12;
+    state::put_count(records, a, text::count(v));
 }
 
-// A command on records and queues: the calls, what is printed of them, and what is written to them.
-fn record_command(
-    line: &[u8],
+// Writes v at byte p of queue k.
+fn queue_byte(queues: &mut [u8], k: usize, p: usize, v: usize) {
+    let a = state::queue_start(k) + text::least(p, 12839);
+    state::put_byte(queues, a, text::byte(v));
+}
+
+// A call, or what is printed of records and queues.
+fn call(
+    what: u8,
+    f: [usize; 8],
     records: &mut [u32],
     queues: &mut [u8],
     log: &mut [u8],
     current: &[u8],
     vars: &mut [usize],
 ) {
-    let k = text::field(line, 1);
-    let a = text::field(line, 2);
-    let b = text::field(line, 3);
-    let c = text::field(line, 4);
-    let z = state::number_at(vars, 1);
-    let what = text::letter(line);
+    let k = f[1];
     match what {
-        b'U' => calls::set_up(records, k, a, b, c),
-        b'S' => calls::send(records, log, vars, k, a, b, c),
-        b'O' => calls::offer(records, queues, current, z, k, a),
-        b'D' => calls::deliver(records, queues, log, vars, k, a, b, c),
+        b'U' => calls::set_up(records, k, f[2], f[3], f[4]),
+        b'S' => calls::send(records, log, vars, k, f[2], f[3], f[4]),
+        b'O' => {
+            let z = state::number_at(vars, 1);
+            calls::offer(records, queues, current, z, k, f[2]);
+        }
+        b'D' => calls::deliver(records, queues, log, vars, k, f[2], f[3], f[4]),
         b'R' => show::show_record(state::load(records, k)),
         b'K' => show::show_queue(queues, k),
-        b'I' => small(records, line, k),
-        b'M' => matrix(records, line, k),
-        b'A' => column(records, line, k),
-        b'V' => vector(records, line, k),
-        b'Q' => state::put_byte(
-            queues,
-            state::queue_start(k) + text::least(a, 12839),
-            text::field8(line, 3),
-        ),
-        b'P' => frames::place(queues, current, z, k, a),
         _ => (),
     }
 }
 
-// A command on the frame at hand.
-fn frame_command(line: &[u8], log: &[u8], current: &mut [u8], vars: &mut [usize]) {
-    let a = text::field(line, 1);
-    let z = text::least(state::number_at(vars, 1), current.len());
-    let what = text::letter(line);
+// A write to records or queues, with a frame at hand of z bytes.
+fn write(
+    what: u8,
+    f: [usize; 8],
+    records: &mut [u32],
+    queues: &mut [u8],
+    current: &[u8],
+    z: usize,
+) {
+    let k = f[1];
     match what {
-        b'F' => frames::take(current, vars, log, a),
-        b'X' => frames::make(current, vars, line),
-        b'E' => frames::entry(
-            current,
-            a,
-            text::field8(line, 2),
-            text::field8(line, 3),
-            text::field32(line, 4),
-        ),
-        b'B' => state::put_byte(current, a, text::field8(line, 2)),
-        b'L' => state::put_number(vars, 1, a),
-        b'T' => frames::close(current, z),
+        b'I' => small(records, k, f),
+        b'M' => entry(records, k, f[2], f[3], f[4]),
+        b'A' => column(records, k, f[2], f[3], f[4], f[5]),
+        b'V' => vector(records, k, f[2], f[3]),
+        b'Q' => queue_byte(queues, k, f[2], f[3]),
+        b'P' => frames::place(queues, current, z, k, f[2]),
+        _ => (),
+    }
+}
+
+// A command on the frame at hand, of z bytes.
+fn frame(what: u8, f: [usize; 8], log: &[u8], current: &mut [u8], vars: &mut [usize], z: usize) {
+    match what {
+        b'F' => frames::take(current, vars, log, f[1]),
+        b'X' => frames::make(current, vars, f),
+        b'E' => {
+            frames::entry(
+                current,
+                f[1],
+                text::byte(f[2]),
+                text::byte(f[3]),
+                text::count(f[4]),
+            );
+        }
+        b'B' => state::put_byte(current, f[1], text::byte(f[2])),
+        b'L' => state::put_number(vars, 1, f[1]),
+        b'T' => {
+            frames::close(current, text::least(z, current.len()));
+            frames::print(current, z);
+        }
         _ => (),
     }
 }
@@ -175,11 +180,11 @@ fn run(
         reset(records, queues, log, current, vars);
         return;
     }
-    record_command(line, records, queues, log, current, vars);
-    frame_command(line, log, current, vars);
-    if what == b'T' {
-        frames::print(current, state::number_at(vars, 1));
-    }
+    let f = text::fields(line);
+    let z = state::number_at(vars, 1);
+    call(what, f, records, queues, log, current, vars);
+    write(what, f, records, queues, current, z);
+    frame(what, f, log, current, vars, z);
 }
 
 // Runs each line of a script.

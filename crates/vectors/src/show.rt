@@ -10,9 +10,7 @@ fn show_matrix(m: &[u32]) {
     while i < m.len() {
         let v = m[i];
         if v != 0 {
-            text::say_number(b" (", i / 12);
-            text::say_number(b",", i % 12);
-            text::say_number(b")=", text::wide32(v));
+            text::print(b" (%,%)=%", &[i / 12, i % 12, text::wide32(v)]);
         }
         i += 1;
     }
@@ -24,8 +22,7 @@ fn show_vector(v: &[u32]) {
     while i < v.len() {
         let d = v[i];
         if d != 0 {
-            text::say_number(b" ", i);
-            text::say_number(b"=", text::wide32(d));
+            text::print(b" %=%", &[i, text::wide32(d)]);
         }
         i += 1;
     }
@@ -33,11 +30,15 @@ fn show_vector(v: &[u32]) {
 
 /// Prints a record: me, n, cap, held, the non-zero counts of M and of DELIV.
 pub fn show_record(r: Node) {
-    text::say_number(b"  me ", text::wide(r.me));
-    text::say_number(b", n ", text::wide(r.n));
-    text::say_number(b", cap ", text::wide(r.cap));
-    text::say_number(b", held ", text::wide(r.held));
-    text::say(b", M");
+    text::print(
+        b"  me %, n %, cap %, held %, M",
+        &[
+            text::wide(r.me),
+            text::wide(r.n),
+            text::wide(r.cap),
+            text::wide(r.held),
+        ],
+    );
     show_matrix(&r.m);
     text::say(b", DELIV");
     show_vector(&r.deliv);
@@ -50,11 +51,10 @@ fn show_slot(slot: &[u8], p: usize) {
         return;
     }
     let n = text::within(slot, state::frame_length(slot, 0));
-    text::say_number(b"  slot ", p);
     if state::filled(slot, n, 0) {
-        text::say(b": ");
+        text::print(b"  slot %: ", &[p]);
     } else {
-        text::say(b", not zero behind it: ");
+        text::print(b"  slot %, not zero behind it: ", &[p]);
     }
     calls::print_frame(&slot[..n]);
 }

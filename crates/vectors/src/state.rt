@@ -172,8 +172,8 @@ pub fn load(records: &[u32], k: usize) -> Node {
     }
 }
 
-// Writes counts from a on.
-fn put_counts(records: &mut [u32], a: usize, s: &[u32]) {
+/// Writes counts from a on.
+pub fn put_counts(records: &mut [u32], a: usize, s: &[u32]) {
     let start = text::least(a, 2000);
     let mut i: usize = 0;
     while i < s.len() {
@@ -185,10 +185,8 @@ fn put_counts(records: &mut [u32], a: usize, s: &[u32]) {
 /// Makes record k this one.
 pub fn store(records: &mut [u32], k: usize, r: Node) {
     let a = record_start(k);
-    put_count(records, a, r.me as u32);
-    put_count(records, a + 1, r.n as u32);
-    put_count(records, a + 2, r.cap as u32);
-    put_count(records, a + 3, r.held as u32);
+    let small = [r.me as u32, r.n as u32, r.cap as u32, r.held as u32];
+    put_counts(records, a, &small);
     put_counts(records, a + 4, &r.m);
     put_counts(records, a + 148, &r.deliv);
 }

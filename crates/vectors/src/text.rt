@@ -27,51 +27,50 @@ pub fn wide32(v: u32) -> usize {
     v as usize
 }
 
-/// How many spaces of a line were passed, and the number that stands in the field looked for.
+/// The field that a line is at, and the numbers of its fields: field k is counted from 1 behind the command's letter, and 0 where there is none.
 struct Scan {
     at: usize,
-    value: usize,
+    value: [usize; 8],
 }
 
-// One byte further in a line, looking for field k. A number has at most ten digits: more push the first ones out.
-fn scanned(c: Scan, k: usize, b: u8) -> Scan {
+// One byte further in a line. A number has at most ten digits: more push the first ones out.
+fn scanned(f: Scan, b: u8) -> Scan {
+    let at = f.at % 8;
+    let mut next = f;
     if b == b' ' {
-        return Scan {
-            at: c.at % 1000 + 1,
-            value: c.value,
-        };
-    }
-    if c.at != k {
-        return c;
+        next.at = at + 1;
+        return next;
     }
     if b < b'0' {
-        return c;
+        return next;
     }
-    Scan {
-        at: c.at,
-        value: c.value % 1_000_000_000 * 10 + wide(b - b'0') % 10,
-    }
+    let v = f.value[at];
+    next.value[at] = v % 1_000_000_000 * 10 + wide(b - b'0') % 10;
+    next
 }
 
-/// The number in field k of a line, counted from 1 behind the command's letter; 0 where there is none.
-pub fn field(line: &[u8], k: usize) -> usize {
-    let mut c = Scan { at: 0, value: 0 };
+/// The numbers of a line.
+pub fn fields(line: &[u8]) -> [usize; 8] {
+    let mut f = Scan {
+        at: 0,
+        value: [0; 8],
+    };
     let mut i: usize = 0;
     while i < line.len() {
-        c = scanned(c, k, line[i]);
+        f = scanned(f, line[i]);
         i += 1;
     }
-    c.value
+    f.value
 }
 
-/// Field k of a line as a count of 32 bits.
-pub fn field32(line: &[u8], k: usize) -> u32 {
-    (field(line, k) % 4294967296) as u32
+/// A number cut to 32 bits.
+pub fn count(n: usize) -> u32 {
+    (n % 4294967296) as u32
 }
 
-/// Field k of a line as a byte.
-pub fn field8(line: &[u8], k: usize) -> u8 {
-    (field(line, k) % 256) as u8
+/// A number cut to a byte.
+pub fn byte(n: usize) -> u8 {
+    (n % 256) as u8
 }
 
 /// The first byte of a line, 0 of an empty one.
@@ -90,15 +89,27 @@ fn say_part(s: &[u8], n: usize) {
     say(&s[..e]);
 }
 
-/// Prints a number.
-pub fn number(n: usize) {
-    io::print_decimal(1, n as u64);
+// Prints a byte, or in place of a % value k, and tells how many values were printed.
+fn say_byte(b: u8, values: &[usize], k: usize) -> usize {
+    if b != b'%' {
+        say(&[b]);
+        return k;
+    }
+    if k < values.len() {
+        io::print_decimal(1, values[k] as u64);
+        return k + 1;
+    }
+    k
 }
 
-/// Prints bytes as they are, and a number behind them.
-pub fn say_number(s: &[u8], n: usize) {
-    say(s);
-    number(n);
+/// Prints a text, with a value in place of each %.
+pub fn print(text: &[u8], values: &[usize]) {
+    let mut k: usize = 0;
+    let mut i: usize = 0;
+    while i < text.len() {
+        k = say_byte(text[i], values, k);
+        i += 1;
+    }
 }
 
 // A digit of base 16.

@@ -7,31 +7,19 @@ use Rattle.vectors.proofs.column.Statement.{statement}
 use Rattle.vectors.proofs.column.Tie as tie
 
 abbrev Inv-loop : tie.InvT-loop
-Inv-loop records₀ line k y last v x₀ records x = length records ≡ length records₀
+Inv-loop records₀ k y a b v last x₀ records x = length records ≡ length records₀
 
 abbrev μ-loop : tie.MeasureT-loop
-μ-loop records₀ line k y last v x₀ records x = 12 - x
-
-field-requires : tie.Need-field-requires Inv-loop μ-loop
-field-requires c κs = search needs
-
-field-requires-2 : tie.Need-field-requires-2 Inv-loop μ-loop
-field-requires-2 c κs = search needs
+μ-loop records₀ k y a b v last x₀ records x = 12 - x
 
 least-requires : tie.Need-least-requires Inv-loop μ-loop
 least-requires c κs = search needs
 
-field32-requires : tie.Need-field32-requires Inv-loop μ-loop
-field32-requires c κs = search needs
-
-field-requires-3 : tie.Need-field-requires-3 Inv-loop μ-loop
-field-requires-3 c κs = search needs
-
 loop-holds : tie.Need-loop-holds Inv-loop μ-loop
 loop-holds c = search needs
 
-put-entry-requires : tie.Need-put-entry-requires Inv-loop μ-loop
-put-entry-requires c κs = search needs
+entry-off-requires : tie.Need-entry-off-requires Inv-loop μ-loop
+entry-off-requires c κs = search needs
 
 add-x : tie.Need-add-x Inv-loop μ-loop
 add-x c = search needs
@@ -54,13 +42,9 @@ column-spec =
     (tie.spec
     Inv-loop
     μ-loop
-    field-requires
-    field-requires-2
     least-requires
-    field32-requires
-    field-requires-3
     loop-holds
-    put-entry-requires
+    entry-off-requires
     add-x
     loop-less
     loop-again

@@ -7,10 +7,10 @@ use Rattle.vectors.proofs.frames.make.Statement.{statement}
 use Rattle.vectors.proofs.frames.make.Tie as tie
 
 abbrev Inv-loop : tie.InvT-loop
-Inv-loop current₀ vars line i₀ current i = (i ≤ 7) × (length current ≡ length current₀)
+Inv-loop current₀ vars f i₀ current i = (i ≤ 7) × (length current ≡ length current₀)
 
 abbrev μ-loop : tie.MeasureT-loop
-μ-loop current₀ vars line i₀ current i = 7 - i
+μ-loop current₀ vars f i₀ current i = 7 - i
 
 clear-requires : tie.Need-clear-requires Inv-loop μ-loop
 clear-requires c κs = search needs
@@ -18,11 +18,17 @@ clear-requires c κs = search needs
 loop-holds : tie.Need-loop-holds Inv-loop μ-loop
 loop-holds c = search needs
 
-add-field8 : tie.Need-add-field8 Inv-loop μ-loop
-add-field8 c = search needs
+add-byte : tie.Need-add-byte Inv-loop μ-loop
+add-byte c = search needs
 
-field8-requires : tie.Need-field8-requires Inv-loop μ-loop
-field8-requires c κs = search needs
+mul-byte : tie.Need-mul-byte Inv-loop μ-loop
+mul-byte c = search needs
+
+array-read-byte : tie.Need-array-read-byte Inv-loop μ-loop
+array-read-byte c = search needs
+
+byte-requires : tie.Need-byte-requires Inv-loop μ-loop
+byte-requires c κs = search needs
 
 put-byte-requires : tie.Need-put-byte-requires Inv-loop μ-loop
 put-byte-requires c κs = search needs
@@ -62,8 +68,10 @@ make-spec =
     μ-loop
     clear-requires
     loop-holds
-    add-field8
-    field8-requires
+    add-byte
+    mul-byte
+    array-read-byte
+    byte-requires
     put-byte-requires
     add-i
     loop-less

@@ -6,10 +6,10 @@ use Rattle.vectors.proofs.show.show_matrix.Statement.{statement}
 use Rattle.vectors.proofs.show.show_matrix.Tie as tie
 
 abbrev Inv-loop : tie.InvT-loop
-Inv-loop m i₀ t4 t5 t6 i = i ≤ length m
+Inv-loop m i₀ t4 i = i ≤ length m
 
 abbrev μ-loop : tie.MeasureT-loop
-μ-loop m i₀ t4 t5 t6 i = length m - i
+μ-loop m i₀ t4 i = length m - i
 
 loop-holds : tie.Need-loop-holds Inv-loop μ-loop
 loop-holds c = search needs
@@ -20,26 +20,17 @@ mul-v c = search needs
 shared-slice-read-v : tie.Need-shared-slice-read-v Inv-loop μ-loop
 shared-slice-read-v c = search needs
 
-slice-aggregate-say-number : tie.Need-slice-aggregate-say-number Inv-loop μ-loop
-slice-aggregate-say-number c = search needs
-
-say-number-requires : tie.Need-say-number-requires Inv-loop μ-loop
-say-number-requires c κs = search needs
-
-slice-aggregate-say-number-2 : tie.Need-slice-aggregate-say-number-2 Inv-loop μ-loop
-slice-aggregate-say-number-2 c = search needs
-
-say-number-requires-2 : tie.Need-say-number-requires-2 Inv-loop μ-loop
-say-number-requires-2 c κs = search needs
-
-slice-aggregate-say-number-3 : tie.Need-slice-aggregate-say-number-3 Inv-loop μ-loop
-slice-aggregate-say-number-3 c = search needs
+slice-aggregate-print : tie.Need-slice-aggregate-print Inv-loop μ-loop
+slice-aggregate-print c = search needs
 
 wide32-requires : tie.Need-wide32-requires Inv-loop μ-loop
 wide32-requires c κs = search needs
 
-say-number-requires-3 : tie.Need-say-number-requires-3 Inv-loop μ-loop
-say-number-requires-3 c κs = search needs
+slice-aggregate-print-2 : tie.Need-slice-aggregate-print-2 Inv-loop μ-loop
+slice-aggregate-print-2 c = search needs
+
+print-requires : tie.Need-print-requires Inv-loop μ-loop
+print-requires c κs = search needs
 
 add-i : tie.Need-add-i Inv-loop μ-loop
 add-i c = search needs
@@ -62,13 +53,10 @@ show-matrix-spec =
     loop-holds
     mul-v
     shared-slice-read-v
-    slice-aggregate-say-number
-    say-number-requires
-    slice-aggregate-say-number-2
-    say-number-requires-2
-    slice-aggregate-say-number-3
+    slice-aggregate-print
     wide32-requires
-    say-number-requires-3
+    slice-aggregate-print-2
+    print-requires
     add-i
     loop-less
     loop-again

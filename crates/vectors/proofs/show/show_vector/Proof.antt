@@ -6,10 +6,10 @@ use Rattle.vectors.proofs.show.show_vector.Statement.{statement}
 use Rattle.vectors.proofs.show.show_vector.Tie as tie
 
 abbrev Inv-loop : tie.InvT-loop
-Inv-loop v i₀ t4 t5 i = i ≤ length v
+Inv-loop v i₀ t4 i = i ≤ length v
 
 abbrev μ-loop : tie.MeasureT-loop
-μ-loop v i₀ t4 t5 i = length v - i
+μ-loop v i₀ t4 i = length v - i
 
 loop-holds : tie.Need-loop-holds Inv-loop μ-loop
 loop-holds c = search needs
@@ -20,20 +20,17 @@ mul-d c = search needs
 shared-slice-read-d : tie.Need-shared-slice-read-d Inv-loop μ-loop
 shared-slice-read-d c = search needs
 
-slice-aggregate-say-number : tie.Need-slice-aggregate-say-number Inv-loop μ-loop
-slice-aggregate-say-number c = search needs
-
-say-number-requires : tie.Need-say-number-requires Inv-loop μ-loop
-say-number-requires c κs = search needs
-
-slice-aggregate-say-number-2 : tie.Need-slice-aggregate-say-number-2 Inv-loop μ-loop
-slice-aggregate-say-number-2 c = search needs
+slice-aggregate-print : tie.Need-slice-aggregate-print Inv-loop μ-loop
+slice-aggregate-print c = search needs
 
 wide32-requires : tie.Need-wide32-requires Inv-loop μ-loop
 wide32-requires c κs = search needs
 
-say-number-requires-2 : tie.Need-say-number-requires-2 Inv-loop μ-loop
-say-number-requires-2 c κs = search needs
+slice-aggregate-print-2 : tie.Need-slice-aggregate-print-2 Inv-loop μ-loop
+slice-aggregate-print-2 c = search needs
+
+print-requires : tie.Need-print-requires Inv-loop μ-loop
+print-requires c κs = search needs
 
 add-i : tie.Need-add-i Inv-loop μ-loop
 add-i c = search needs
@@ -56,11 +53,10 @@ show-vector-spec =
     loop-holds
     mul-d
     shared-slice-read-d
-    slice-aggregate-say-number
-    say-number-requires
-    slice-aggregate-say-number-2
+    slice-aggregate-print
     wide32-requires
-    say-number-requires-2
+    slice-aggregate-print-2
+    print-requires
     add-i
     loop-less
     loop-again

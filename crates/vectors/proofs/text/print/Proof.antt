@@ -2,23 +2,23 @@
 use Prim.Native.Nat.{_-_, _≤_}
 use borrow.Author.Needs.{needs}
 use lib.ListN.{length}
-use Rattle.vectors.proofs.text.field.Statement.{statement}
-use Rattle.vectors.proofs.text.field.Tie as tie
+use Rattle.vectors.proofs.text.print.Statement.{statement}
+use Rattle.vectors.proofs.text.print.Tie as tie
 
 abbrev Inv-loop : tie.InvT-loop
-Inv-loop line k c₀ i₀ c i = i ≤ length line
+Inv-loop text values k₀ i₀ k i = i ≤ length text
 
 abbrev μ-loop : tie.MeasureT-loop
-μ-loop line k c₀ i₀ c i = length line - i
+μ-loop text values k₀ i₀ k i = length text - i
 
 loop-holds : tie.Need-loop-holds Inv-loop μ-loop
 loop-holds c = search needs
 
-shared-slice-read-scanned : tie.Need-shared-slice-read-scanned Inv-loop μ-loop
-shared-slice-read-scanned c = search needs
+shared-slice-read-say-byte : tie.Need-shared-slice-read-say-byte Inv-loop μ-loop
+shared-slice-read-say-byte c = search needs
 
-scanned-requires : tie.Need-scanned-requires Inv-loop μ-loop
-scanned-requires c κs = search needs
+say-byte-requires : tie.Need-say-byte-requires Inv-loop μ-loop
+say-byte-requires c κs = search needs
 
 add-i : tie.Need-add-i Inv-loop μ-loop
 add-i c = search needs
@@ -32,15 +32,15 @@ loop-again c = search needs
 returns : tie.Need-returns Inv-loop μ-loop
 returns c = search needs
 
-pub field-spec : {M : Type 1} → statement M
-field-spec =
+pub print-spec : {M : Type 1} → statement M
+print-spec =
     tie.close
     (tie.spec
     Inv-loop
     μ-loop
     loop-holds
-    shared-slice-read-scanned
-    scanned-requires
+    shared-slice-read-say-byte
+    say-byte-requires
     add-i
     loop-less
     loop-again
