@@ -1,6 +1,6 @@
 //! Worked examples of the node, run through its compiled calls. Standard input is a script with one command to a line; each line is printed as it stands, and below it, indented by two spaces, what the command shows. A second implementation can run the same script.
 //!
-//! There are twelve records and twelve queues, numbered from 0, a log of issued frames, numbered from 1, and one frame at hand. All are zero and empty at first.
+//! There are twelve records and twelve queues, numbered from 0, a log of issued frames, numbered from 1, and one frame at hand. All are zero and empty at first. A number has at most ten digits; one that is missing is 0.
 //!
 //! - `# text`: a comment.
 //! - `Z`: everything as at first.
@@ -9,8 +9,8 @@
 //! - `O k q`: offer of the frame at hand at record k, with queue k cut to q bytes.
 //! - `D k q o b`: deliver at record k, with queue k cut to q bytes, an output of o and a body output of b bytes. Issued frames go into the log.
 //! - `R k` and `K k`: print record k, and the slots of queue k that are not all zero.
-//! - `I k me n cap held`, `M k x y v`, `V k x v`: write me, n, cap and held of record k; M\[x,y\]; DELIV\[x\].
-//! - `A k y a b v`: write v at M\[x,y\] of record k for each row x from a to b but y.
+//! - `I k me n cap held`, `M k x y v`, `V k x v`: write me, n, cap and held of record k; M[x,y]; DELIV[x].
+//! - `A k y a b v`: write v at M[x,y] of record k for each row x from a to b but y.
 //! - `Q k p v`: write byte p of queue k. `P k p`: put the frame at hand into slot p of queue k, with zeros behind it.
 //! - `F i`: take issue i of the log as the frame at hand.
 //! - `X kind from to e b n cap`: a new frame at hand: this header, e entries of zeros, a body of b bytes, a trailer of zeros. `E i row column value`: write its entry i, from 0.
