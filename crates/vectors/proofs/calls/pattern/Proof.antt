@@ -1,0 +1,52 @@
+-- Each index of the loop is within its bounds, and the loop ends. Assumes nothing.
+use Prim.Native.Nat.{_-_, _≤_}
+use mathlib.Core.Path.{_≡_}
+use borrow.Author.Needs.{needs}
+use lib.ListN.{length}
+use Rattle.vectors.proofs.calls.pattern.Statement.{statement}
+use Rattle.vectors.proofs.calls.pattern.Tie as tie
+
+abbrev Inv-loop : tie.InvT-loop
+Inv-loop body₀ i₀ body i = (i ≤ 128) × (length body ≡ 128)
+
+abbrev μ-loop : tie.MeasureT-loop
+μ-loop body₀ i₀ body i = 128 - i
+
+loop-holds : tie.Need-loop-holds Inv-loop μ-loop
+loop-holds c = search needs
+
+add-body : tie.Need-add-body Inv-loop μ-loop
+add-body c = search needs
+
+cast-body : tie.Need-cast-body Inv-loop μ-loop
+cast-body c = search needs
+
+array-write-body : tie.Need-array-write-body Inv-loop μ-loop
+array-write-body c = search needs
+
+add-i : tie.Need-add-i Inv-loop μ-loop
+add-i c = search needs
+
+loop-less : tie.Need-loop-less Inv-loop μ-loop
+loop-less c = search needs
+
+loop-again : tie.Need-loop-again Inv-loop μ-loop
+loop-again c = search needs
+
+returns : tie.Need-returns Inv-loop μ-loop
+returns c = search needs
+
+pub pattern-spec : {M : Type 1} → statement M
+pattern-spec =
+    tie.close
+    (tie.spec
+    Inv-loop
+    μ-loop
+    loop-holds
+    add-body
+    cast-body
+    array-write-body
+    add-i
+    loop-less
+    loop-again
+    returns)

@@ -1,0 +1,47 @@
+-- Each index of the loop is within its bounds, and the loop ends. Assumes nothing.
+use Prim.Native.Nat.{_-_, _≤_}
+use borrow.Author.Needs.{needs}
+use lib.ListN.{length}
+use Rattle.vectors.proofs.text.fields.Statement.{statement}
+use Rattle.vectors.proofs.text.fields.Tie as tie
+
+abbrev Inv-loop : tie.InvT-loop
+Inv-loop line f₀ i₀ f i = i ≤ length line
+
+abbrev μ-loop : tie.MeasureT-loop
+μ-loop line f₀ i₀ f i = length line - i
+
+loop-holds : tie.Need-loop-holds Inv-loop μ-loop
+loop-holds c = search needs
+
+shared-slice-read-scanned : tie.Need-shared-slice-read-scanned Inv-loop μ-loop
+shared-slice-read-scanned c = search needs
+
+scanned-requires : tie.Need-scanned-requires Inv-loop μ-loop
+scanned-requires c κs = search needs
+
+add-i : tie.Need-add-i Inv-loop μ-loop
+add-i c = search needs
+
+loop-less : tie.Need-loop-less Inv-loop μ-loop
+loop-less c = search needs
+
+loop-again : tie.Need-loop-again Inv-loop μ-loop
+loop-again c = search needs
+
+returns : tie.Need-returns Inv-loop μ-loop
+returns c = search needs
+
+pub fields-spec : {M : Type 1} → statement M
+fields-spec =
+    tie.close
+    (tie.spec
+    Inv-loop
+    μ-loop
+    loop-holds
+    shared-slice-read-scanned
+    scanned-requires
+    add-i
+    loop-less
+    loop-again
+    returns)
