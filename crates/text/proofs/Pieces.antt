@@ -6,7 +6,7 @@ use native.Mathlib.Omega.{arith}
 use native.Mathlib.Decide.{ℕ-discrete}
 use lib.Dec.{eqb}
 use lib.ListN.{drop, getD, length, length-drop, take}
-use lib.Seq.{drop-drop}
+use lib.Seq.{drop-drop, take-all}
 use Rattle.wire.proofs.Bytes.{rest, rest-end}
 use Rattle.wire.proofs.Tests.{cond-elim, cond-no, cond-yes, eq→eqb, ne→neqb}
 use Rattle.text.specs.Pieces.{before, grown, split}
@@ -49,6 +49,12 @@ split-other : (c b : ℕ) (s : List ℕ) → (b ≡ c → ⊥) → split c (b �
 unfolding split
 split-other c b s e = cond-no (eqb b c) ([] ∷ split c s) (grown b (split c s)) (ne→neqb b c e)
 
+-- a piece that grows is a piece
+grown-some : (b : ℕ) (ps : List (List ℕ)) → 1 ≤ length (grown b ps)
+unfolding grown
+grown-some b [] = omega arith
+grown-some b (p ∷ ps) = omega arith
+
 -- the pieces of a text in which c stands: the first is what stands before the first c
 pub split-here : (c : ℕ) (s : List ℕ) → before c s < length s → split c s ≡ take (before c s) s ∷ split c (drop (before c s + 1) s)
 unfolding grown
@@ -84,3 +90,16 @@ split-found c s at z e h =
 
 pub split-none : (c : ℕ) (s : List ℕ) (at z : ℕ) → z ≡ at + before c (drop at s) → z ≡ length s → at ≤ length s → split c (drop at s) ≡ drop at s ∷ []
 split-none c s at z e h l = split-whole c (drop at s) (rw length-drop (omega arith))
+
+-- where it stands nowhere, the last piece goes up to z
+pub split-last : (c : ℕ) (s : List ℕ) (at z : ℕ) → z ≡ at + before c (drop at s) → z ≡ length s → at ≤ length s → split c (drop at s) ≡ take (z - at) (drop at s) ∷ []
+split-last c s at z e h l =
+    let whole : take (z - at) (drop at s) ≡ drop at s = take-all (z - at) (drop at s) (rw length-drop (omega arith)) in
+    split-none c s at z e h l ∙ rw whole
+
+-- there is always a piece
+pub split-some : (c : ℕ) (s : List ℕ) → 1 ≤ length (split c s)
+unfolding split
+split-some c [] = omega arith
+split-some c (b ∷ s) =
+    cond-elim (λ (ps : List (List ℕ)). 1 ≤ length ps) (eqb b c) ([] ∷ split c s) (grown b (split c s)) (λ t. omega arith) (λ t. grown-some b (split c s))
