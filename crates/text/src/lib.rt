@@ -32,10 +32,10 @@ pub fn find(s: &[u8], at: usize, c: u8) -> usize
 fn is_digit(b: u8) -> bool
     ensures { λ r. ⌜ r ≡ isDigit b ⌝ }
 {
-    if b < 48 {
+    if b < b'0' {
         return false;
     }
-    b <= 57
+    b <= b'9'
 }
 
 // The number v with one digit more behind it.
@@ -43,10 +43,10 @@ fn with_digit(v: u64, b: u8) -> u64
     requires { ⌜ (48 ≤ b) × (b ≤ 57) × (10 * v + 9 < 18446744073709551616) ⌝ }
     ensures { λ r. ⌜ r ≡ 10 * v + (b - 48) ⌝ }
 {
-    10 * v + (b - 48) as u64
+    10 * v + (b - b'0') as u64
 }
 
-/// The number of a field of 1 to `most` digits, the whole of s.
+/// The number of a field of 1 to `most` digits, the whole of s. Nineteen digits fit a u64.
 pub fn value(s: &[u8], most: usize) -> Number
     requires { ⌜ most ≤ 19 ⌝ }
     ensures { λ r. ⌜ r ≡ value most (now (s .entry)) ⌝ }
@@ -76,11 +76,11 @@ pub fn put_decimal(out: &mut [u8], at: usize, v: u32) -> usize
     ensures { λ r. ⌜ (r ≡ at + length (decimal v)) × (now (out .exit) ≡ put (now (out .entry)) at (decimal v)) ⌝ }
 {
     if v < 10 {
-        out[at] = 48 + v as u8;
+        out[at] = b'0' + v as u8;
         return at + 1;
     }
     let last = put_decimal(out, at, v / 10);
-    out[last] = 48 + (v % 10) as u8;
+    out[last] = b'0' + (v % 10) as u8;
     last + 1
 }
 
@@ -93,10 +93,10 @@ pub fn put_row(out: &mut [u8], at: usize, letter: u8, values: &[u32]) -> usize
     let mut end = at + 1;
     let mut i = 0;
     while i < values.len() {
-        out[end] = 32;
+        out[end] = b' ';
         end = put_decimal(out, end + 1, values[i]);
         i += 1;
     }
-    out[end] = 10;
+    out[end] = b'\n';
     end + 1
 }
