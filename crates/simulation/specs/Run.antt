@@ -1,0 +1,25 @@
+-- A run over lent bytes: refused where the output is too short, and then it stays as it is.
+use Prim.Native.Nat.{ℕ}
+use mathlib.Core.Bool.{cond}
+use mathlib.Core.List.{List}
+use lib.Dec.{ltb}
+use lib.ListN.{length}
+use Rattle.wire.specs.Bytes.{put}
+use Rattle.simulation.specs.Yard.{output}
+use Rattle.simulation.specs.declared.Ran.{Ran}
+use Rattle.simulation.specs.declared.Ran.the-variants as ran
+
+-- bytes of output that always suffice: five for each byte of input, and some for the frames issued and the T line
+abbrev pub outputSize : ℕ
+outputSize = 24576
+
+-- what the caller of a run holds: its answer and the output
+pub record AfterRun : Type 0 where
+  pub answer : Ran
+  pub out : List ℕ
+
+abbrev pub afterRun : Ran → List ℕ → AfterRun
+afterRun r out = record { answer = r; out = out }
+
+unfoldable pub runCall : List ℕ → List ℕ → AfterRun
+runCall input out = cond (ltb (length out) outputSize) (afterRun ran.TooShort out) (afterRun (ran.Written (length (output input))) (put out 0 (output input)))

@@ -1,0 +1,7 @@
+//! The yard: parses its input line by line, steps the world, counts and prints.
+
+/// What a run answers: that the output is too short, or how many bytes it wrote.
+pub enum Ran {
+    TooShort,
+    Written(usize),
+}

@@ -1,0 +1,8 @@
+-- Laws of `world`: frames in a log, what a call's answer tells, worlds that a list leads to, and a world that stays stored.
+pub mod Logs
+pub mod Told
+pub mod Reach
+pub mod Keeping
+-- pub mod Sends
+-- pub mod Offers
+-- pub mod Delivers

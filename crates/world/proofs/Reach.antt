@@ -1,0 +1,103 @@
+-- Worlds that a list of steps leads to: one step more, and what is known of the frames issued. Assumes nothing.
+use Prim.Native.Nat.{ℕ, _+_, _≤_, _<_}
+use mathlib.Core.Bool.{cond}
+use mathlib.Core.List.{List, [], _∷_, _++_, map}
+use mathlib.Core.Option.{Option, none, some}
+use mathlib.Core.Path.{_≡_, refl, sym, ap, _∙_, subst}
+use native.Mathlib.Omega.{arith}
+use lib.Dec.{ltb, lt→ltb}
+use lib.ListN.{length, getElem?, length-append, length-map}
+use Rattle.wire.proofs.Tests.{cond-yes}
+use Rattle.wire.proofs.Bytes.{small-bytes}
+use Rattle.wire.specs.Limits.{maxFrame}
+use Rattle.matrix.specs.Message.{InRange, Sound}
+use Rattle.frame.proofs.Written.{encode-most, encode-sound}
+use Rattle.frame.specs.Frame.{encode}
+use Rattle.frame.specs.Header.{header}
+use Rattle.arrival.specs.Checked.{Checked}
+use Rattle.protocol.proofs.Good.{Good}
+use Rattle.protocol.proofs.Lists.{map-at}
+use Rattle.protocol.proofs.Runs.{run-good, run-length, start-good}
+use Rattle.protocol.specs.World as messages
+use Rattle.node.specs.Calls.{sendCall, offerCall, deliverCall}
+use Rattle.causality.proofs.Matches.{Matches, encodeIssue}
+use Rattle.causality.proofs.Queues.{sound-issue}
+use Rattle.causality.proofs.Reading.{to-encode}
+use Rattle.causality.proofs.Runs.{run-matches, start-matches}
+use Rattle.causality.proofs.Steps.{forget}
+use Rattle.causality.specs.Demand3.{BodiesOfBytes, Issue, Step, World, run, start, step, sends, offers, delivers, sendAt, offerAt, deliverAt, offerIssue, destination}
+use Rattle.world.specs.Stored.{Reached}
+
+-- one step more at the end of a list
+run-more : (n : ℕ) (w : World) (l : List Step) (s : Step) → run n w (l ++ (s ∷ [])) ≡ step n (run n w l) s
+run-more n w [] s = refl
+run-more n w (t ∷ l) s = run-more n (step n w t) l s
+
+bodies-more : (l : List Step) (s : Step) → BodiesOfBytes l → BodiesOfBytes (s ∷ []) → BodiesOfBytes (l ++ (s ∷ []))
+bodies-more [] s b h = h
+bodies-more (sends i to body out ∷ l) s b h = (b .0, bodies-more l s (b .1) h)
+bodies-more (offers i p ∷ l) s b h = bodies-more l s b h
+bodies-more (delivers i out body ∷ l) s b h = bodies-more l s b h
+
+module _ (n cap k : ℕ) (w : World) (r : Reached n cap k w) where
+  pub reached-later : Reached n cap (k + 1) w
+  reached-later = record { steps = r .steps; bytes = r .bytes; few = omega (arith, r .few); same = r .same }
+
+  reached-step : (s : Step) → BodiesOfBytes (s ∷ []) → Reached n cap (k + 1) (step n w s)
+  reached-step s h = record {
+    steps = r .steps ++ (s ∷ []);
+    bytes = bodies-more (r .steps) s (r .bytes) h;
+    few = omega (arith, r .few, length-append (r .steps) (s ∷ []));
+    same = ap (λ (x : World). step n x s) (r .same) ∙ sym (run-more n (start n cap) (r .steps) s);
+  }
+
+  pub reached-send : (i to : ℕ) (out : List ℕ) → i < n → Reached n cap (k + 1) (sendAt w i (sends i to [] out) (sendCall (w .records i) to [] out))
+  unfolding step
+  reached-send i to out h = subst (Reached n cap (k + 1)) (cond-yes (ltb i n) _ w (lt→ltb _ _ h)) (reached-step (sends i to [] out) (small-bytes [] tt, tt))
+
+  pub reached-offer : (j p : ℕ) (g : Issue) → j < n → getElem? (w .log) p ≡ some g → Reached n cap (k + 1) (offerAt w j (offers j p) (offerCall (w .records j) (g .frame) (w .queues j)))
+  unfolding step
+  reached-offer j p g h e =
+      subst (Reached n cap (k + 1)) (cond-yes (ltb j n) _ w (lt→ltb _ _ h) ∙ ap (offerIssue w j p) e) (reached-step (offers j p) tt)
+
+  pub reached-deliver : (j : ℕ) (out body : List ℕ) → j < n → Reached n cap (k + 1) (deliverAt w j (delivers j out body) (deliverCall (w .records j) (w .queues j) out body))
+  unfolding step
+  reached-deliver j out body h = subst (Reached n cap (k + 1)) (cond-yes (ltb j n) _ w (lt→ltb _ _ h)) (reached-step (delivers j out body) tt)
+
+  -- the issued frames are sound, go to a node of the list, and have at most 802 bytes
+  pub record IssuedFacts (s : List ℕ) : Type 0 where
+    pub sound : Checked s
+    pub to : destination s < n
+    pub most : length s ≤ maxFrame
+
+  module _ (inside : InRange n cap) (short : k < 1000000000) where
+    abbrev v : messages.World
+    v = messages.run n (messages.start n (λ i. cap)) (map forget (r .steps))
+
+    abbrev b : World
+    b = run n (start n cap) (r .steps)
+
+    good : Good n (λ i. cap) v
+    good = run-good n (λ i. cap) (messages.start n (λ i. cap)) (map forget (r .steps)) (start-good n (λ i. cap) (λ k h. inside))
+
+    few : length (v .history) < 1000000000
+    few = omega (arith, run-length n (messages.start n (λ i. cap)) (map forget (r .steps)), length-map (r .steps) forget, r .few)
+
+    m : Matches n v b
+    m = run-matches n cap (r .steps) (r .bytes) (messages.start n (λ i. cap)) (start n cap) (start-good n (λ i. cap) (λ k h. inside)) (omega (arith, r .few)) (start-matches n cap inside)
+
+    issued-facts-run : (p : ℕ) (g : Issue) → getElem? (b .log) p ≡ some g → IssuedFacts (g .frame)
+    issued-facts-run p g e =
+        let x = map-at encodeIssue (v .log) p g (sym (ap (λ (z : List Issue). getElem? z p) (m .log)) ∙ e) in
+        let f : messages.Issue = x .0 in
+        let sound : Sound (f .message) = sound-issue n cap v good few (m .bodies) p f (x .1) in
+        let s = encode-sound (f .message) sound in
+        subst (λ (z : Issue). IssuedFacts (z .frame)) (x .2)
+        (record {
+          sound = record { n = f .message .n; cap = f .message .cap; few = sound .range .atMost12; passes = s .passes };
+          to = subst (λ (z : ℕ). z < n) (sym (to-encode (f .message))) (good .sound p f (x .1) .to);
+          most = encode-most (f .message) sound;
+        })
+
+    pub issued-facts : (p : ℕ) (g : Issue) → getElem? (w .log) p ≡ some g → IssuedFacts (g .frame)
+    issued-facts p g e = issued-facts-run p g (sym (ap (λ (z : World). getElem? (z .log) p) (r .same)) ∙ e)

@@ -1,0 +1,117 @@
+-- How the world of a list is stored: the records in a struct, the hold-back queues end to end, and the issued frames end to end.
+use Prim.Native.Nat.{ℕ, _+_, _*_, _<_, _≤_}
+use mathlib.Core.Bool.{Bool, true, false, _&&_, _||_}
+use mathlib.Core.List.{List, [], _∷_, _++_}
+use mathlib.Core.Path.{_≡_}
+use lib.Dec.{leb}
+use lib.ListN.{length, getD, set, take, drop}
+use Rattle.wire.specs.Limits.{maxFrame}
+use Rattle.matrix.specs.Message.{InRange}
+use Rattle.arrival.specs.Checked.{Checked}
+use Rattle.holdback.specs.Slots.{queueSize}
+use Rattle.node.specs.declared.Node.{Node as Record}
+use Rattle.node.specs.declared.SetUpAnswer.{SetUpAnswer}
+use Rattle.node.specs.declared.SetUpAnswer.the-variants.{Refused, Ready}
+use Rattle.node.specs.SetUp.{setUp}
+use Rattle.node.specs.Calls.{outSize}
+use Rattle.causality.specs.Demand3.{World, Step, BodiesOfBytes, start, run}
+use Rattle.world.specs.declared.World.{World as Stored}
+use Rattle.world.specs.Steps.{frames}
+
+-- nodes of a simulation at most
+abbrev pub maxSimulated : ℕ
+maxSimulated = 4
+
+-- what lies past the last record
+abbrev pub noRecord : Record
+noRecord = record { me = 0; n = 0; cap = 0; m = []; deliv = []; held = 0 }
+
+-- the bytes of a log that has room for so many issues, and for what one call may write behind them
+unfoldable pub logSize : ℕ → ℕ
+logSize limit = maxFrame * limit + outSize
+
+-- the frames end to end
+unfoldable pub joined : List (List ℕ) → List ℕ
+joined [] = []
+joined (s ∷ l) = s ++ joined l
+
+-- the bytes l begin with these sound frames end to end
+pub record Begins (f : List (List ℕ)) (l : List ℕ) : Type 0 where
+  pub sound : (k : ℕ) → k < length f → Checked (getD f k [])
+  pub bytes : take (length (joined f)) l ≡ joined f
+
+-- the bytes l begin with at least k sound frames
+pub record BeginsWith (k : ℕ) (l : List ℕ) : Type 0 where
+  pub frames : List (List ℕ)
+  pub many : k ≤ length frames
+  pub begins : Begins frames l
+
+-- the queue of node i among queues that lie end to end
+unfoldable pub queueAt : List ℕ → ℕ → List ℕ
+queueAt q i = take queueSize (drop (queueSize * i) q)
+
+-- ---- The start
+
+-- set-up's record for node i
+abbrev pub freshFor : ℕ → List ℕ → ℕ → Record
+freshFor n caps i = setUp i n (getD caps i 0) .node
+
+-- what set-up leaves for each node, with its cap; nothing issued
+unfoldable pub fresh : ℕ → List ℕ → Stored
+fresh n caps = record { n = n; nodes = freshFor n caps 0 ∷ freshFor n caps 1 ∷ freshFor n caps 2 ∷ freshFor n caps 3 ∷ []; issued = 0; end = 0 }
+
+abbrev pub isReady : SetUpAnswer → Bool
+isReady (Refused k) = false
+isReady Ready = true
+
+-- there is no node i among n, or set-up takes its cap
+unfoldable pub capTaken : ℕ → ℕ → ℕ → Bool
+capTaken n i cap = leb n i || isReady (setUp i n cap .answer)
+
+-- n is 2 to 4, and set-up takes each node's cap
+unfoldable pub startable : ℕ → List ℕ → Bool
+startable n caps =
+    leb 2 n && leb n maxSimulated && capTaken n 0 (getD caps 0 0) && capTaken n 1 (getD caps 1 0) && capTaken n 2 (getD caps 2 0) && capTaken n 3 (getD caps 3 0)
+
+-- ---- A world that is stored
+
+-- the world w is one that a list of at most k steps leads to
+pub record Reached (n cap k : ℕ) (w : World) : Type 0 where
+  pub steps : List Step
+  pub bytes : BodiesOfBytes steps
+  pub few : length steps ≤ k
+  pub same : w ≡ run n (start n cap) steps
+
+-- the world w, which at most k steps led to, is stored in s, the queues q and the log l
+-- below: a step that issues finds n issues left, and writes at most 13 frames
+pub record Holds (n cap limit k : ℕ) (w : World) (s : Stored) (q l : List ℕ) : Type 0 where
+  pub range : InRange n cap
+  pub few : n ≤ maxSimulated
+  pub reached : Reached n cap k w
+  pub nodes : s .n ≡ n
+  pub array : length (s .nodes) ≡ maxSimulated
+  pub records : (i : ℕ) → i < n → getD (s .nodes) i noRecord ≡ w .records i
+  pub size : length q ≡ queueSize * maxSimulated
+  pub queues : (i : ℕ) → i < n → queueAt q i ≡ w .queues i
+  pub issued : s .issued ≡ length (w .log)
+  pub below : length (w .log) ≤ limit + 11
+  pub room : length l ≡ logSize limit
+  pub begins : Begins (frames (w .log)) l
+  pub end : s .end ≡ length (joined (frames (w .log)))
+
+-- some world is, and further steps are allowed
+pub record Standing (limit : ℕ) (s : Stored) (q l : List ℕ) : Type 0 where
+  pub n : ℕ
+  pub cap : ℕ
+  pub k : ℕ
+  pub world : World
+  pub more : k + 1 < 1000000000
+  pub holds : Holds n cap limit k world s q l
+
+-- the same, where the queues are not lent
+abbrev pub StandingRecords : ℕ → Stored → List ℕ → Type 0
+StandingRecords limit s l = (q : List ℕ) × Standing limit s q l
+
+-- the record r in place of node i's, and so many frames and bytes more
+abbrev pub storedAfter : Stored → ℕ → Record → ℕ → ℕ → Stored
+storedAfter s i r count bytes = record { n = s .n; nodes = set (s .nodes) i r; issued = s .issued + count; end = s .end + bytes }
