@@ -7,6 +7,7 @@ use lib.ListN.{length, drop}
 use Rattle.text.specs.Pieces.{split}
 use Rattle.text.specs.Print.{row}
 use Rattle.frame.specs.Header.{header}
+use Rattle.frame.specs.declared.header.Header.{Header}
 use Rattle.causality.specs.Demand3.{World, start}
 use Rattle.commands.specs.Commands.{command}
 use Rattle.commands.specs.FirstLine.{firstLine}
@@ -36,13 +37,13 @@ abbrev pub refusalRow : ℕ → List ℕ
 refusalRow k = row 82 (k ∷ [])
 
 -- a frame issued: S, or X for an extra, issue, from, to, e
-unfoldable pub issueRow : ℕ → List ℕ → List ℕ
-issueRow m s = row (cond (eqb (header s .kind) 1) 83 88) (m ∷ header s .from ∷ header s .to ∷ header s .e ∷ [])
+unfoldable pub headerRow : ℕ → Header → List ℕ
+headerRow m h = row (cond (eqb (h .kind) 1) 83 88) (m ∷ h .from ∷ h .to ∷ h .e ∷ [])
 
 -- the frames issued from issue m on
 unfoldable pub issueRows : ℕ → List (List ℕ) → List ℕ
 issueRows m [] = []
-issueRows m (s ∷ l) = issueRow m s ++ issueRows (m + 1) l
+issueRows m (s ∷ l) = headerRow m (header s) ++ issueRows (m + 1) l
 
 -- the frames that the world v has issued and the world w before it had not
 abbrev pub newRows : World → World → List ℕ
@@ -69,20 +70,32 @@ abbrev pub waits : Bool → ℕ
 waits true = 0
 waits false = 1
 
--- what a step leaves and prints; x is the issue that was offered, or the node of a deliver
-abbrev pub afterStep : Yard → ℕ → World → Outcome → AfterLine
-afterStep y x v (outcome.Refused k) = record { yard = y; printed = refusalRow k }
-afterStep y x v (outcome.Sent extras) = record { yard = record { world = v; counters = countedSend (y .counters) extras }; printed = newRows (y .world) v }
-afterStep y x v (outcome.Held count ready) = record { yard = record { world = v; counters = countedOffer (y .counters) (waits ready) }; printed = row 65 (x ∷ count ∷ []) }
-afterStep y x v (outcome.Nothing tried) = record { yard = record { world = v; counters = countedNothing (y .counters) tried }; printed = row 78 (x ∷ tried ∷ []) }
-afterStep y x v (outcome.Delivered issue tried extras) =
-    record { yard = record { world = v; counters = countedDelivery (y .counters) extras }; printed = row 68 (x ∷ issue ∷ tried ∷ []) ++ newRows (y .world) v }
+-- what a step prints: x is the issue that was offered, or the node of a deliver; `issues` are the lines of the frames that it issued
+unfoldable pub printedBy : ℕ → List ℕ → Outcome → List ℕ
+printedBy x issues (outcome.Refused k) = refusalRow k
+printedBy x issues (outcome.Sent extras) = issues
+printedBy x issues (outcome.Held count ready) = row 65 (x ∷ count ∷ [])
+printedBy x issues (outcome.Nothing tried) = row 78 (x ∷ tried ∷ [])
+printedBy x issues (outcome.Delivered issue tried extras) = row 68 (x ∷ issue ∷ tried ∷ []) ++ issues
+
+-- the counters after a step
+unfoldable pub countedBy : Counters → Outcome → Counters
+countedBy t (outcome.Refused k) = t
+countedBy t (outcome.Sent extras) = countedSend t extras
+countedBy t (outcome.Held count ready) = countedOffer t (waits ready)
+countedBy t (outcome.Nothing tried) = countedNothing t tried
+countedBy t (outcome.Delivered issue tried extras) = countedDelivery t extras
+
+-- what a step leaves and prints
+abbrev pub afterStep : Yard → ℕ → AfterStep → AfterLine
+afterStep y x a =
+    record { yard = record { world = a .world; counters = countedBy (y .counters) (a .outcome) }; printed = printedBy x (newRows (y .world) (a .world)) (a .outcome) }
 
 -- a line of a yard of n nodes: S i j, A m, D j, and 17 for another line
 unfoldable pub line : ℕ → Yard → Command → AfterLine
-line n y (command.Send i j) = let a : AfterStep = sendStep n maxIssues (y .world) i j in afterStep y i (a .world) (a .outcome)
-line n y (command.Offer m) = let a : AfterStep = offerStep (y .world) m in afterStep y m (a .world) (a .outcome)
-line n y (command.Deliver j) = let a : AfterStep = deliverStep n maxIssues (y .world) j in afterStep y j (a .world) (a .outcome)
+line n y (command.Send i j) = afterStep y i (sendStep n maxIssues (y .world) i j)
+line n y (command.Offer m) = afterStep y m (offerStep (y .world) m)
+line n y (command.Deliver j) = afterStep y j (deliverStep n maxIssues (y .world) j)
 line n y command.Other = record { yard = y; printed = refusalRow 17 }
 
 -- the lines behind the first: the last piece of the input is what stands behind the last line feed, and is another line where it is not empty; then T
