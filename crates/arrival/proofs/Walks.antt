@@ -1,5 +1,5 @@
 -- The tests of a matrix and the walks over its entries: each pair says the same where the entries rise. Assumes nothing.
-use Prim.Native.Nat.{_+_, _-_, _<_, _≤_, suc, zero, ℕ}
+use Prim.Native.Nat.{_+_, _-_, _<_, _≤_, ℕ}
 use mathlib.Core.Bool.{Bool, _&&_, _||_, false, not, true}
 use mathlib.Core.List.{List, [], _∷_}
 use mathlib.Core.Path.{_∙_, _≡_, refl}
@@ -16,7 +16,7 @@ use Rattle.frame.specs.declared.entries.Entry.{Entry}
 use Rattle.matrix.specs.Matrix.{Matrix}
 use Rattle.protocol.proofs.Below.{all-each, each-all, none-some, some-none}
 use Rattle.protocol.specs.Node.{eachBelow, someBelow}
-use Rattle.wire.proofs.Tests.{T-and, and-T, eq→eqb, if-then, le→nltb, not-or, or-not, then-if, same-test}
+use Rattle.wire.proofs.Tests.{T-and, and-T, eq→eqb, if-then, le→nltb, not-or, or-not, then-if, same-not, same-test}
 
 -- whether the test holds of some entry, and of every entry
 unfoldable pub someEntry : (Entry → Bool) → List Entry → Bool
@@ -46,12 +46,6 @@ entries-all : (p : Entry → Bool) (l : List Entry) → Each (λ a. T (p a)) l �
 unfolding everyEntry
 entries-all p [] e = tt
 entries-all p (a ∷ l) e = T-and (p a) (everyEntry p l) (e .0) (entries-all p l (e .1))
-
-same-not : (a b : Bool) → (T (not a) → T (not b)) → (T (not b) → T (not a)) → a ≡ b
-same-not true true f g = refl
-same-not true false f g = absurd (g tt)
-same-not false true f g = absurd (f tt)
-same-not false false f g = refl
 
 -- later entries stand further on
 each-from : (k j : ℕ) (l : List Entry) → k ≤ j → Ordered j l → Each (Stands k) l

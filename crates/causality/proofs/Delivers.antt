@@ -8,7 +8,7 @@ use mathlib.Core.Path.{_∙_, _≡_, ap, ap₂, refl, subst, sym}
 use native.Mathlib.Omega.{arith}
 use lib.Dec.{T, eqb, ltb}
 use lib.ListN.{getElem?, length}
-use Rattle.causality.proofs.Frames.{cut-nothing, issued-frames, trim-bare, trim-room}
+use Rattle.causality.proofs.Frames.{cut-nothing, issued-frames, trim-bare}
 use Rattle.causality.proofs.Matches.{Agrees}
 use Rattle.causality.proofs.Offers.{queue-passes, whole-back}
 use Rattle.causality.proofs.Queues.{Bodies, frames-back, queue-length}
@@ -22,6 +22,7 @@ use Rattle.matrix.specs.Matrix.{Matrix, merge}
 use Rattle.matrix.specs.Message.{Kind, Message, extra, user}
 use Rattle.node.specs.Answers.{AfterDeliver}
 use Rattle.node.specs.Calls.{acceptDeliver, deliverCall, refuseDeliver}
+use Rattle.node.specs.Sizes.{outSize}
 use Rattle.node.specs.Record.{brokenRecord, nodeOf, recordOf}
 use Rattle.protocol.proofs.Bounds.{below-limit}
 use Rattle.protocol.proofs.Good.{Good}
@@ -30,6 +31,7 @@ use Rattle.protocol.proofs.Lists.{at-none}
 use Rattle.protocol.specs.Node.{atLimit}
 use Rattle.protocol.specs.Offer.{deliverable}
 use Rattle.wire.proofs.Bytes.{small-bytes}
+use Rattle.trim.proofs.Bounds.{trim-bytes}
 use Rattle.wire.proofs.Tests.{cond-no, cond-yes, decide, eq→eqb, le→nltb, not-or, T-not-not}
 use Rattle.wire.specs.Bytes.{AllBytes}
 use Rattle.protocol.specs.Deliver.{Search, absent, found, past, search, conclude, deliver, learn}
@@ -66,7 +68,7 @@ search-left p (a ∷ l) k m others e = go (decide (p a)) (search p l) refl (λ k
 -- what a delivery issues fits, and has no body
 learn-room : (k : Kind) (d : MessageNode) (e : Matrix) → length (framesOf ((learn k d e) .extras)) ≤ 1008
 unfolding framesOf
-learn-room user d e = trim-room 12 (d .me) (d .n) (d .cap) (merge (d .me) (d .matrix) e)
+learn-room user d e = trim-bytes 12 (d .me) (d .n) (d .cap) (merge (d .me) (d .matrix) e)
 learn-room extra d e = omega arith
 
 learn-bare : (k : Kind) (d : MessageNode) (e : Matrix) (p : ℕ) (f : Message) → getElem? ((learn k d e) .extras) p ≡ some f → f .body ≡ []
@@ -94,7 +96,7 @@ module _ (n cap : ℕ) (w : messages.World) (g : Good n (λ i. cap) w) (few : le
   abbrev settle : List ℕ → List ℕ → protocol.Outcome → AfterDeliver
   settle out body o = cond (protocol.accepted (o .answer)) (acceptDeliver r q out body o (protocol.delivery (o .answer))) (refuseDeliver (refusalOf (o .answer)) r q out body)
 
-  settled : (out body : List ℕ) → 2048 ≤ length out → (s : Search) → search (deliverable d) (w .nodes i .held) ≡ s → Left (conclude d s) (settle out body (conclude d s))
+  settled : (out body : List ℕ) → outSize ≤ length out → (s : Search) → search (deliverable d) (w .nodes i .held) ≡ s → Left (conclude d s) (settle out body (conclude d s))
   settled out body h absent e = record {
     node = refl;
     queue = refl;
@@ -115,10 +117,10 @@ module _ (n cap : ℕ) (w : messages.World) (g : Good n (λ i. cap) w) (few : le
 
   -- check 3 is met, or not
   abbrev short : List ℕ → List ℕ → Bool
-  short out body = not (eqb (length q) queueSize) || ltb (length out) 2048 || ltb (length body) 64
+  short out body = ltb (length out) outSize || ltb (length body) 64 || not (eqb (length q) queueSize)
 
   -- a deliver that is lent outputs of at least 2,048 and 64 bytes
-  pub deliver-agrees : (out body : List ℕ) → 2048 ≤ length out → 64 ≤ length body → Left (deliver d) (deliverCall r q out body)
+  pub deliver-agrees : (out body : List ℕ) → outSize ≤ length out → 64 ≤ length body → Left (deliver d) (deliverCall r q out body)
   unfolding deliverCall deliver
   deliver-agrees out body h k =
       let o : protocol.Outcome = deliver (nodeOf r (heldMessages (length (w .nodes i .held)) q)) in
@@ -134,19 +136,19 @@ module _ (n cap : ℕ) (w : messages.World) (g : Good n (λ i. cap) w) (few : le
     where
       long : T (not (short out body))
       long =
-          not-or (not (eqb (length q) queueSize) || ltb (length out) 2048) (ltb (length body) 64)
-          (not-or (not (eqb (length q) queueSize)) (ltb (length out) 2048) (T-not-not (eqb (length q) queueSize) (eq→eqb (length q) queueSize (queue-length n cap w g few bodies i hi))) (le→nltb (length out) 2048 h))
-          (le→nltb (length body) 64 k)
+          not-or (ltb (length out) outSize || ltb (length body) 64) (not (eqb (length q) queueSize))
+          (not-or (ltb (length out) outSize) (ltb (length body) 64) (le→nltb (length out) outSize h) (le→nltb (length body) 64 k))
+          (T-not-not (eqb (length q) queueSize) (eq→eqb (length q) queueSize (queue-length n cap w g few bodies i hi)))
 
   -- one that is lent less
-  pub deliver-short : (out body : List ℕ) → T (ltb (length out) 2048 || ltb (length body) 64) → deliverCall r q out body ≡ refuseDeliver 3 r q out body
+  pub deliver-short : (out body : List ℕ) → T (ltb (length out) outSize || ltb (length body) 64) → deliverCall r q out body ≡ refuseDeliver 3 r q out body
   unfolding deliverCall
   deliver-short out body h =
       let o : protocol.Outcome = deliver (nodeOf r (heldMessages (length (w .nodes i .held)) q)) in
       let t₄ : AfterDeliver = cond (wrongQueue (nodeOf r []) (length (w .nodes i .held)) q) (refuseDeliver 4 r q out body) (settle out body o) in
       cond-no (brokenRecord r) (refuseDeliver 2 r q out body) (cond (short out body) (refuseDeliver 3 r q out body) t₄) (record-kept n cap w g few i hi)
-      ∙ cond-yes (short out body) (refuseDeliver 3 r q out body) t₄ (go (not (eqb (length q) queueSize)) (ltb (length out) 2048) (ltb (length body) 64) h)
+      ∙ cond-yes (short out body) (refuseDeliver 3 r q out body) t₄ (go (ltb (length out) outSize || ltb (length body) 64) (not (eqb (length q) queueSize)) h)
     where
-      go : (a b c : Bool) → T (b || c) → T (a || b || c)
-      go true b c t = tt
-      go false b c t = t
+      go : (a b : Bool) → T a → T (a || b)
+      go true b t = tt
+      go false b t = absurd t

@@ -19,6 +19,7 @@ use Rattle.matrix.specs.Array.{entry, flat}
 use Rattle.matrix.specs.Matrix.{clear, columnCount, count, fullest, merge, only}
 use Rattle.matrix.specs.Message.{InRange, number}
 use Rattle.node.specs.Calls.{deliverCall, offerCall, sendCall}
+use Rattle.node.specs.Sizes.{outSize}
 use Rattle.node.specs.Record.{brokenRecord}
 use Rattle.rules.specs.Rules.{brokenRules, inRange, withinLimit, zeroColumn, zeroDiagonal, zeroFrom}
 use Rattle.node.specs.SetUp.{setUp}
@@ -39,7 +40,7 @@ use Rattle.wire.specs.Trailer as trailers
 
 -- lent outputs
 abbrev out : List ℕ
-out = replicate 2048 0
+out = replicate outSize 0
 
 abbrev text : List ℕ
 text = replicate 64 0

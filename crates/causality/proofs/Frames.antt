@@ -1,5 +1,5 @@
 -- Frames end to end, as a step issues them: cut by their own e and b they are those frames, and a step's frames fit its output. Assumes nothing.
-use Prim.Native.Nat.{_*_, _<_, _≤_, suc, zero, ℕ}
+use Prim.Native.Nat.{_≤_, suc, zero, ℕ}
 use mathlib.Core.List.{List, [], _++_, _∷_, map}
 use mathlib.Core.Option.{some}
 use mathlib.Core.Path.{_∙_, _≡_, ap, ap₂, refl, sym}
@@ -14,12 +14,9 @@ use Rattle.frame.proofs.Written.{header-encode, length-encode}
 use Rattle.frame.specs.Frame.{encode, headerOf}
 use Rattle.frame.specs.Frames.{framesOf}
 use Rattle.frame.specs.Header.{header, ownLength}
-use Rattle.matrix.proofs.Bounds.{only-count}
-use Rattle.matrix.proofs.Columns.{fullest-lt}
-use Rattle.matrix.proofs.Matrix.{nonZero-le}
-use Rattle.matrix.proofs.Sums.{sum-ones}
-use Rattle.matrix.specs.Matrix.{Matrix, clear, columnCount, count, fullest, nonZero}
+use Rattle.matrix.specs.Matrix.{Matrix, clear, count, fullest}
 use Rattle.matrix.specs.Message.{Message, extraMessage}
+use Rattle.node.specs.Sizes.{outSize}
 use Rattle.protocol.proofs.Lists.{at-none}
 use Rattle.protocol.specs.Trim.{Trimmed, issuing, trimFor, untouched}
 use Rattle.wire.proofs.Bytes.{put-back}
@@ -68,30 +65,8 @@ cut-nothing out = cut-none 0
 pub issued-frames : (out : List ℕ) (l : List Message) → length (framesOf l) ≤ length out → framesIn (take (length (framesOf l)) (write out 0 (framesOf l))) ≡ map encode l
 issued-frames out l h = ap framesIn (put-back out 0 (framesOf l) (omega arith)) ∙ cut-frames l
 
--- an extra frame has at most 84 bytes
-column-twelve : (m : Matrix) (y : ℕ) → columnCount m y ≤ 12
-unfolding columnCount
-column-twelve m y = sum-ones 12 (λ x. nonZero (m x y)) (λ x _. nonZero-le (m x y))
-
-extra-short : (from l n cap : ℕ) (m : Matrix) → l < 12 → length (encode (extraMessage from l n cap m)) ≤ 84
-extra-short from l n cap m h = omega (arith, length-encode (extraMessage from l n cap m), only-count m l h, column-twelve m l)
-
--- k rounds of trim write at most 84 k
-pub trim-room : (k me n cap : ℕ) (m : Matrix) → length (framesOf ((trimFor k me n cap m) .extras)) ≤ 84 * k
-unfolding trimFor framesOf
-trim-room zero me n cap m = omega arith
-trim-room (suc k) me n cap m =
-    cond-elim (λ (t : Trimmed). length (framesOf (t .extras)) ≤ 84 * suc k) (leb (count m) cap) (untouched m) (issuing (extraMessage me (fullest m) n cap m) (trimFor k me n cap (clear me (fullest m) m)))
-    (λ _. omega arith)
-    (λ _. omega (
-      arith,
-      length-append (encode (extraMessage me (fullest m) n cap m)) (framesOf ((trimFor k me n cap (clear me (fullest m) m)) .extras)),
-      extra-short me (fullest m) n cap m (fullest-lt m),
-      trim-room k me n cap (clear me (fullest m) m),
-    ))
-
 -- a send's frames fit 2,048 bytes
-pub send-room : (f : Message) → length (encode f) ≤ maxFrame → (l : List Message) → length (framesOf l) ≤ 1008 → length (framesOf (f ∷ l)) ≤ 2048
+pub send-room : (f : Message) → length (encode f) ≤ maxFrame → (l : List Message) → length (framesOf l) ≤ 1008 → length (framesOf (f ∷ l)) ≤ outSize
 unfolding framesOf
 send-room f h l r = omega (arith, length-append (encode f) (framesOf l))
 

@@ -6,7 +6,6 @@ use mathlib.Core.Logic.{_⊎_, inl, inr}
 use mathlib.Core.Option.{Option, none, some}
 use mathlib.Core.Path.{_∙_, _≡_, ap, ap₂, refl, subst, sym}
 use native.Mathlib.Decide.{ℕ-discrete}
-use native.Mathlib.Omega.{arith}
 use lib.Dec.{eqb}
 use lib.ListN.{getElem?, length}
 use Rattle.causality.proofs.Queues.{Bodies}
@@ -141,14 +140,3 @@ module _ (n : ℕ) (w : messages.World) (b : World) (m : Matches n w b) (i : ℕ
       body p f (inr h) =
           let x = map-at (messages.issuedBy (length (w .history))) (protocol.issued (o .answer)) (h .0) f (h .1) in
           subst (λ (z : messages.Issue). AllBytes (z .message .body)) (x .2) (g .bodies (h .0) (x .0) (x .1))
-
--- a place of a mapped list
-pub at-map : {A B : Type 0} (f : A → B) (l : List A) (p : ℕ) (a : A) → getElem? l p ≡ some a → getElem? (map f l) p ≡ some (f a)
-at-map f [] p a e = absurd (at-none p a e)
-at-map f (x ∷ l) zero a e = let z : x ≡ a = cc in ap (λ (y : _). some (f y)) z
-at-map f (x ∷ l) (suc p) a e = at-map f l p a e
-
-pub none-map : {A B : Type 0} (f : A → B) (l : List A) (p : ℕ) → getElem? l p ≡ none → getElem? (map f l) p ≡ none
-none-map f [] p e = refl
-none-map f (x ∷ l) zero e = let z : _≡_ {A = ℕ} 0 1 = cc in absurd (omega arith)
-none-map f (x ∷ l) (suc p) e = none-map f l p e

@@ -7,7 +7,7 @@ use mathlib.Core.Option.{some}
 use mathlib.Core.Path.{_∙_, _≡_, ap, ap₂, subst, sym}
 use lib.Dec.{eqb, eqb→eq}
 use lib.ListN.{getElem?, length}
-use Rattle.causality.proofs.Matches.{Matches, at-map, encodeIssue, named}
+use Rattle.causality.proofs.Matches.{Matches, encodeIssue, named}
 use Rattle.causality.proofs.Queues.{frames-back, held-sound, sound-issue}
 use Rattle.causality.proofs.Reading.{earliest-there, held-back, held-there, issue-back, issue-there, label-encode, same-held, some-back, some-there, to-encode}
 use Rattle.causality.proofs.Steps.{given-here, offered-here}
@@ -21,7 +21,7 @@ use Rattle.node.specs.Answers.{offerNumber}
 use Rattle.node.specs.Calls.{offerCall}
 use Rattle.protocol.proofs.Good.{Good}
 use Rattle.protocol.proofs.Grown.{node-eq, nodeAt}
-use Rattle.protocol.proofs.Lists.{map-at}
+use Rattle.protocol.proofs.Lists.{at-map, map-at}
 use Rattle.protocol.proofs.Liveness.{accepts-first, delivers-first}
 use Rattle.protocol.specs.Offer.{offer}
 use Rattle.wire.proofs.Tests.{of-true}

@@ -7,7 +7,7 @@ use mathlib.Core.Path.{_∙_, _≡_, ap, refl, subst, sym}
 use native.Mathlib.Omega.{arith}
 use lib.Dec.{T, ltb, ltb→lt, nltb→le}
 use lib.ListN.{getElem?, length}
-use Rattle.causality.proofs.Matches.{Matches, at-map, empty, encodeIssue, none-map}
+use Rattle.causality.proofs.Matches.{Matches, empty, encodeIssue}
 use Rattle.causality.proofs.Records.{range-T}
 use Rattle.causality.proofs.Steps.{deliver-matches, deliver-matches-short, forget, lentLess, offer-matches, send-matches, send-matches-short}
 use Rattle.causality.specs.Demand3.{BodiesOfBytes, Issue, Step, World, deliverAt, delivers, offerIssue, offers, run, sendAt, sends, start, step}
@@ -15,12 +15,13 @@ use Rattle.holdback.specs.Slots.{laid, queueSize, slots, zeros}
 use Rattle.matrix.specs.Array.{flat}
 use Rattle.matrix.specs.Message.{InRange}
 use Rattle.node.specs.Calls.{deliverCall, sendCall}
+use Rattle.node.specs.Sizes.{outSize}
 use Rattle.node.specs.Record.{recordOf}
 use Rattle.rules.specs.Rules.{inRange}
 use Rattle.node.specs.SetUp.{freshRecord, setUp}
 use Rattle.node.specs.declared.SetUp.{SetUp}
 use Rattle.protocol.proofs.Good.{Good}
-use Rattle.protocol.proofs.Lists.{at-none}
+use Rattle.protocol.proofs.Lists.{at-map, at-none, none-map}
 use Rattle.protocol.proofs.Runs.{run-length, step-good}
 use Rattle.protocol.specs.Node.{fresh}
 use Rattle.protocol.specs.Send.{send}
@@ -40,9 +41,9 @@ module _ (n cap : ℕ) (w : messages.World) (b : World) (g : Good n (λ i. cap) 
   send-step : (i to : ℕ) (body out : List ℕ) → AllBytes body → Matches n (messages.step n w (forget (sends i to body out))) (step n b (sends i to body out))
   unfolding messages.step step
   send-step i to body out bytes =
-      cond-elim (λ (x : messages.Step). Matches n (messages.step n w x) new) (ltb (length out) 2048) (messages.sends i i []) (messages.sends i to body)
-      (λ s. both n (ltb i n) (messages.afterStep w i (messages.sends i i []) (send (w .nodes i) i [])) w after b (λ t. send-matches-short n cap w b g few m i (ltb→lt i n t) to body out (ltb→lt (length out) 2048 s)) m)
-      (λ s. both n (ltb i n) (messages.afterStep w i (messages.sends i to body) (send (w .nodes i) to body)) w after b (λ t. send-matches n cap w b g few m i (ltb→lt i n t) to body out bytes (nltb→le (length out) 2048 s)) m)
+      cond-elim (λ (x : messages.Step). Matches n (messages.step n w x) new) (ltb (length out) outSize) (messages.sends i i []) (messages.sends i to body)
+      (λ s. both n (ltb i n) (messages.afterStep w i (messages.sends i i []) (send (w .nodes i) i [])) w after b (λ t. send-matches-short n cap w b g few m i (ltb→lt i n t) to body out (ltb→lt (length out) outSize s)) m)
+      (λ s. both n (ltb i n) (messages.afterStep w i (messages.sends i to body) (send (w .nodes i) to body)) w after b (λ t. send-matches n cap w b g few m i (ltb→lt i n t) to body out bytes (nltb→le (length out) outSize s)) m)
     where
       after : World
       after = sendAt b i (sends i to body out) (sendCall (b .records i) to body out)
@@ -66,9 +67,9 @@ module _ (n cap : ℕ) (w : messages.World) (b : World) (g : Good n (λ i. cap) 
   deliver-step i out body =
       cond-elim (λ (x : messages.Step). Matches n (messages.step n w x) new) (lentLess out body) (messages.sends i i []) (messages.delivers i)
       (λ s. both n (ltb i n) (messages.afterStep w i (messages.sends i i []) (send (w .nodes i) i [])) w after b (λ t. deliver-matches-short n cap w b g few m i (ltb→lt i n t) out body s) m)
-      (λ s. let r = or-not (ltb (length out) 2048) (ltb (length body) 64) s in
+      (λ s. let r = or-not (ltb (length out) outSize) (ltb (length body) 64) s in
       both n (ltb i n) (messages.afterStep w i (messages.delivers i) (deliver (w .nodes i))) w after b
-      (λ t. deliver-matches n cap w b g few m i (ltb→lt i n t) out body (nltb→le (length out) 2048 (r .0)) (nltb→le (length body) 64 (r .1))) m)
+      (λ t. deliver-matches n cap w b g few m i (ltb→lt i n t) out body (nltb→le (length out) outSize (r .0)) (nltb→le (length body) 64 (r .1))) m)
     where
       after : World
       after = deliverAt b i (delivers i out body) (deliverCall (b .records i) (b .queues i) out body)

@@ -8,7 +8,7 @@ use mathlib.Core.Path.{_∙_, _≡_, ap, refl, subst, sym}
 use native.Mathlib.Omega.{arith}
 use lib.Dec.{T, eqb, ltb, lt→ltb, nltb→le}
 use lib.ListN.{getElem?, length}
-use Rattle.causality.proofs.Frames.{issued-frames, send-room, trim-bare, trim-room}
+use Rattle.causality.proofs.Frames.{issued-frames, send-room, trim-bare}
 use Rattle.causality.proofs.Matches.{Agrees}
 use Rattle.causality.proofs.Queues.{Bodies}
 use Rattle.causality.proofs.Records.{node-back, record-kept}
@@ -22,6 +22,7 @@ use Rattle.matrix.specs.Matrix.{clear}
 use Rattle.matrix.specs.Message.{Message}
 use Rattle.node.specs.Answers.{AfterSend}
 use Rattle.node.specs.Calls.{acceptSend, refuseSend, sendCall}
+use Rattle.node.specs.Sizes.{outSize}
 use Rattle.node.specs.Record.{brokenRecord, nodeOf, recordOf}
 use Rattle.protocol.proofs.Bounds.{below-limit}
 use Rattle.protocol.proofs.Good.{Good}
@@ -29,6 +30,7 @@ use Rattle.protocol.proofs.Grown.{nodeAt}
 use Rattle.protocol.specs.Node.{atLimit}
 use Rattle.protocol.specs.Send.{longBody, send, sending, sentMatrix, sentMessage}
 use Rattle.wire.proofs.Bytes.{small-bytes}
+use Rattle.trim.proofs.Bounds.{trim-bytes}
 use Rattle.wire.proofs.Tests.{cond-no, cond-yes, decide, le→nltb}
 use Rattle.wire.specs.Bytes.{AllBytes}
 use Rattle.wire.specs.Limits.{maxFrame}
@@ -105,7 +107,7 @@ module _ (n cap : ℕ) (w : messages.World) (g : Good n (λ i. cap) w) (few : le
   says-no : (k : ℕ) → T (not (eqb k 0)) → SaysNo (sent (answer.Refused k))
   says-no k t = record { refuses = not-zero k t; nothing = refl; holds = refl; gives = refl; counts = refl }
 
-  settled : (to : ℕ) (body out : List ℕ) → AllBytes body → 2048 ≤ length out → Case to body → Left (send d to body) (settle out (send (with-held []) to body))
+  settled : (to : ℕ) (body out : List ℕ) → AllBytes body → outSize ≤ length out → Case to body → Left (send d to body) (settle out (send (with-held []) to body))
   settled to body out bytes h (refuses k t e) =
       subst (λ (o : protocol.Outcome). Left o (settle out (send (with-held []) to body))) (sym (e (w .nodes i .held)))
       (subst (λ (o : protocol.Outcome). Left (protocol.refuse k d) (settle out o)) (sym (e [])) (refused-agrees d k (sent (answer.Refused k)) out (says-no k t)))
@@ -116,7 +118,7 @@ module _ (n cap : ℕ) (w : messages.World) (g : Good n (λ i. cap) w) (few : le
         node = refl;
         queue = refl;
         answer = record { acceptance = refl; names = refl; taken = refl; given = refl };
-        frames = issued-frames out issues (omega (arith, send-room (sentMessage d to body) (user-fits to body short) extras (trim-room 12 i n cap (clear i to (w .nodes i .matrix)))));
+        frames = issued-frames out issues (omega (arith, send-room (sentMessage d to body) (user-fits to body short) extras (trim-bytes 12 i n cap (clear i to (w .nodes i .matrix)))));
         bodies = all-bytes;
       }))
     where
@@ -131,18 +133,18 @@ module _ (n cap : ℕ) (w : messages.World) (g : Good n (λ i. cap) w) (few : le
       all-bytes (suc p) m a = subst (λ (x : List ℕ). AllBytes x) (sym (trim-bare 12 i n cap (clear i to (w .nodes i .matrix)) p m a)) (small-bytes [] tt)
 
   -- a send that is lent an output of at least 2,048 bytes
-  pub send-agrees : (to : ℕ) (body out : List ℕ) → AllBytes body → 2048 ≤ length out → Left (send d to body) (sendCall r to body out)
+  pub send-agrees : (to : ℕ) (body out : List ℕ) → AllBytes body → outSize ≤ length out → Left (send d to body) (sendCall r to body out)
   unfolding sendCall
   send-agrees to body out bytes h =
       subst (Left (send d to body))
-      (sym (cond-no (brokenRecord r) (refuseSend 2 r out) (cond (ltb (length out) 2048) (refuseSend 3 r out) (settle out (send (nodeOf r []) to body))) (record-kept n cap w g few i hi)
-      ∙ cond-no (ltb (length out) 2048) (refuseSend 3 r out) (settle out (send (nodeOf r []) to body)) (le→nltb (length out) 2048 h)
+      (sym (cond-no (brokenRecord r) (refuseSend 2 r out) (cond (ltb (length out) outSize) (refuseSend 3 r out) (settle out (send (nodeOf r []) to body))) (record-kept n cap w g few i hi)
+      ∙ cond-no (ltb (length out) outSize) (refuseSend 3 r out) (settle out (send (nodeOf r []) to body)) (le→nltb (length out) outSize h)
       ∙ ap (λ (e : MessageNode). settle out (send e to body)) (node-back n cap w g few i hi [])))
       (settled to body out bytes h (case to body))
 
   -- one that is lent less
-  pub send-short : (to : ℕ) (body out : List ℕ) → length out < 2048 → sendCall r to body out ≡ refuseSend 3 r out
+  pub send-short : (to : ℕ) (body out : List ℕ) → length out < outSize → sendCall r to body out ≡ refuseSend 3 r out
   unfolding sendCall
   send-short to body out h =
-      cond-no (brokenRecord r) (refuseSend 2 r out) (cond (ltb (length out) 2048) (refuseSend 3 r out) (settle out (send (nodeOf r []) to body))) (record-kept n cap w g few i hi)
-      ∙ cond-yes (ltb (length out) 2048) (refuseSend 3 r out) (settle out (send (nodeOf r []) to body)) (lt→ltb (length out) 2048 h)
+      cond-no (brokenRecord r) (refuseSend 2 r out) (cond (ltb (length out) outSize) (refuseSend 3 r out) (settle out (send (nodeOf r []) to body))) (record-kept n cap w g few i hi)
+      ∙ cond-yes (ltb (length out) outSize) (refuseSend 3 r out) (settle out (send (nodeOf r []) to body)) (lt→ltb (length out) outSize h)

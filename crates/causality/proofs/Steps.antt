@@ -16,6 +16,7 @@ use Rattle.frame.specs.Frame.{encode}
 use Rattle.holdback.specs.Slots.{laid}
 use Rattle.node.specs.Answers.{AfterDeliver, AfterOffer, AfterSend}
 use Rattle.node.specs.Calls.{deliverCall, offerCall, sendCall}
+use Rattle.node.specs.Sizes.{outSize}
 use Rattle.node.specs.Record.{recordOf}
 use Rattle.protocol.proofs.Bounds.{below-limit}
 use Rattle.protocol.proofs.Good.{Good}
@@ -33,11 +34,11 @@ use Rattle.protocol.specs.Deliver.{deliver}
 
 -- whether a deliver is lent too little
 abbrev pub lentLess : List ℕ → List ℕ → Bool
-lentLess out body = ltb (length out) 2048 || ltb (length body) 64
+lentLess out body = ltb (length out) outSize || ltb (length body) 64
 
 -- the step on messages: a call that is lent too little is refused, as a send to itself is
 abbrev pub forget : Step → messages.Step
-forget (sends i to body out) = cond (ltb (length out) 2048) (messages.sends i i []) (messages.sends i to body)
+forget (sends i to body out) = cond (ltb (length out) outSize) (messages.sends i i []) (messages.sends i to body)
 forget (offers i p) = messages.offers i p
 forget (delivers i out body) = cond (lentLess out body) (messages.sends i i []) (messages.delivers i)
 
@@ -105,13 +106,13 @@ module _ (n cap : ℕ) (w : messages.World) (b : World) (g : Good n (λ i. cap) 
     sent-with : (o : protocol.Outcome) → SentWith o (recordOf d) (laid (map encode (w .nodes i .held))) → SentWith o (b .records i) (b .queues i)
     sent-with o h = subst (λ (r : Record). SentWith o r (b .queues i)) (sym same-record) (subst (λ (q : List ℕ). SentWith o (recordOf d) q) (sym same-queue) h)
 
-    pub send-matches : AllBytes body → 2048 ≤ length out → Sent (messages.sends i to body) (send (w .nodes i) to body)
+    pub send-matches : AllBytes body → outSize ≤ length out → Sent (messages.sends i to body) (send (w .nodes i) to body)
     send-matches bytes h =
         let c : AfterSend = sendCall (b .records i) to body out in
         matched (messages.sends i to body) (sends i to body out) (send-send i to i to body body out) (λ z. send z to body) (c .result .node) (b .queues i) (sent (c .result .answer)) (c .out)
         (sent-with (send d to body) (send-agrees n cap w g few (m .bodies) i hi to body out bytes h))
 
-    pub send-matches-short : length out < 2048 → Sent (messages.sends i i []) (send (w .nodes i) i [])
+    pub send-matches-short : length out < outSize → Sent (messages.sends i i []) (send (w .nodes i) i [])
     send-matches-short h =
         let c : AfterSend = sendCall (b .records i) to body out in
         matched (messages.sends i i []) (sends i to body out) (send-send i i i to [] body out) (λ z. send z i []) (c .result .node) (b .queues i) (sent (c .result .answer)) (c .out)
@@ -146,10 +147,10 @@ module _ (n cap : ℕ) (w : messages.World) (b : World) (g : Good n (λ i. cap) 
     given-with : (o : protocol.Outcome) → GivenWith o (recordOf d) (laid (map encode (w .nodes i .held))) → GivenWith o (b .records i) (b .queues i)
     given-with o h = subst (λ (r : Record). GivenWith o r (b .queues i)) (sym same-record) (subst (λ (q : List ℕ). GivenWith o (recordOf d) q) (sym same-queue) h)
 
-    pub given-here : 2048 ≤ length out → 64 ≤ length body → GivenWith (deliver d) (b .records i) (b .queues i)
+    pub given-here : outSize ≤ length out → 64 ≤ length body → GivenWith (deliver d) (b .records i) (b .queues i)
     given-here h k = given-with (deliver d) (deliver-agrees n cap w g few (m .bodies) i hi out body h k)
 
-    pub deliver-matches : 2048 ≤ length out → 64 ≤ length body → Given (messages.delivers i) (deliver (w .nodes i))
+    pub deliver-matches : outSize ≤ length out → 64 ≤ length body → Given (messages.delivers i) (deliver (w .nodes i))
     deliver-matches h k =
         let c : AfterDeliver = deliverCall (b .records i) (b .queues i) out body in
         matched (messages.delivers i) (delivers i out body) (deliver-deliver i i out body) deliver (c .result .node) (c .queue) (delivered (c .result .answer)) (c .out) (given-here h k)

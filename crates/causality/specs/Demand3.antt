@@ -26,7 +26,8 @@ use Rattle.node.specs.declared.OfferAnswer.the-variants as offer
 use Rattle.node.specs.declared.DeliverAnswer.the-variants as deliver
 use Rattle.node.specs.SetUp.{setUp}
 use Rattle.node.specs.Answers.{sendNumber, offerNumber, deliverNumber, AfterSend, AfterOffer, AfterDeliver}
-use Rattle.node.specs.Calls.{outSize, sendCall, offerCall, deliverCall}
+use Rattle.node.specs.Sizes.{outSize}
+use Rattle.node.specs.Calls.{sendCall, offerCall, deliverCall}
 
 -- ---- A list of steps
 

@@ -18,6 +18,9 @@ ghost use Rattle.holdback.specs.Check.{wrongQueue};
 ghost use Rattle.holdback.specs.Checked.{CheckedQueue};
 ghost use Rattle.holdback.specs.Steps.{allZero, slotKey, among, someEqual};
 
+/// Bytes of the queue.
+pub const QUEUE_SIZE: usize = wire::MAX_HELD * wire::MAX_FRAME;
+
 /// Lays a frame into the first slot behind the held ones.
 pub fn hold(q: &mut [u8], held: usize, s: &[u8])
     requires { ⌜ (length (now q) ≡ queueSize) × (held < maxHeld) × (length (now s) ≤ maxFrame) × (now q ≡ laid (heldFrames held (now q))) ⌝ }

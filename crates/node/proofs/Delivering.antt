@@ -1,19 +1,19 @@
 -- Deliver by its refusal, and what a deliver that is not refused leaves. Assumes nothing.
 use Prim.Native.Nat.{_-_, _<_, _≤_, suc, ℕ}
-use mathlib.Core.Bool.{Bool, cond, false, not, true}
+use mathlib.Core.Bool.{Bool, _||_, cond, false, not, true}
 use mathlib.Core.List.{List, [], map}
 use mathlib.Core.Option.{some}
 use mathlib.Core.Path.{_∙_, _≡_, ap, refl, sym}
 use native.Mathlib.Omega.{arith}
-use borrow.Author.Tests.{eq-eqb, le-ltb, lt-ltb, ne-eqb}
-use lib.Dec.{eqb, eqb→eq, ltb, nltb→le}
+use borrow.Author.Tests.{le-ltb, lt-ltb, ne-eqb}
+use lib.Dec.{eqb, ltb, nltb→le}
 use lib.ListN.{length, length-map}
+use Rattle.node.proofs.Shared.{RecordPassed, checked-queue, queue-laid, record-met, record-passed, record-past}
 use Rattle.node.proofs.Offering.{length-messages}
 use Rattle.arrival.specs.View.{nodeWith}
 use Rattle.frame.specs.Frame.{decode}
 use Rattle.frame.specs.Frames.{framesOf}
 use Rattle.frame.specs.Header.{kindByte}
-use Rattle.holdback.proofs.Held.{queue-kept}
 use Rattle.holdback.proofs.Parts.{HeldPart, endOf, held-part}
 use Rattle.holdback.proofs.Queues.{found-held, length-without}
 use Rattle.holdback.proofs.Searched.{found-none}
@@ -27,15 +27,16 @@ use Rattle.matrix.specs.Matrix.{Matrix}
 use Rattle.matrix.specs.Message.{Kind, Message, extra, number, user}
 use Rattle.node.specs.Answers.{AfterDeliver, afterDeliver}
 use Rattle.node.specs.Calls.{acceptDeliver, deliverCall, refusal, refuseDeliver}
-use Rattle.node.specs.Checks.{deliverRefusal, nodeAt, wrongLengths}
+use Rattle.node.specs.Checks.{deliverRefusal, nodeAt, recordRefusal, shortOutputs}
 use Rattle.node.specs.Record.{brokenRecord, nodeOf}
+use Rattle.node.specs.Sizes.{outSize}
 use Rattle.protocol.specs.Answer.{Outcome, accepted, delivery, label, refuse}
 use Rattle.protocol.specs.Deliver.{Search, absent, conclude, countUp, deliver, found, learn, search}
 use Rattle.protocol.specs.Node.{Node, atLimit}
 use Rattle.protocol.specs.Offer.{deliverable}
 use Rattle.protocol.specs.Trim.{Trimmed}
-use Rattle.rules.proofs.Facts.{Unbroken, unbroken}
-use Rattle.wire.proofs.Tests.{is-false, no-three, not-not, skipped}
+use Rattle.rules.proofs.Facts.{Unbroken}
+use Rattle.wire.proofs.Tests.{of-false, or-not}
 use Rattle.wire.specs.Bytes.{put}
 use Rattle.wire.specs.Limits.{maxBody}
 use Rattle.node.specs.declared.Delivered.{Delivered}
@@ -68,79 +69,61 @@ conclude-accepts d (found k m others) = refl
 
 pub deliver-by-refusal : (r : Record) (q out body : List ℕ)
     → deliverCall r q out body
-    ≡ cond (eqb (deliverRefusal r q (length out) (length body)) 0) (acceptDeliver r q out body (concluded r q) (delivery ((concluded r q) .answer))) (refuseDeliver (deliverRefusal r q (length out) (length body)) r q out body)
-unfolding deliverCall deliverRefusal deliver after
+    ≡ cond (eqb (deliverRefusal r q (shortOutputs (length out) (length body))) 0) (acceptDeliver r q out body (concluded r q) (delivery ((concluded r q) .answer))) (refuseDeliver (deliverRefusal r q (shortOutputs (length out) (length body))) r q out body)
+unfolding deliverCall deliverRefusal recordRefusal deliver after
 deliver-by-refusal r q out body =
     let d = nodeAt r q in
-    by-checks r q out body d (concluded r q) (conclude-accepts d (search (deliverable d) (heldMessages (r .held) q))) (brokenRecord r) (wrongLengths (length q) (length out) (length body)) (wrongQueue (nodeOf r []) (r .held) q) (atLimit d)
+    by-checks r q out body d (concluded r q) (conclude-accepts d (search (deliverable d) (heldMessages (r .held) q))) (brokenRecord r) (shortOutputs (length out) (length body) || not (eqb (length q) queueSize)) (wrongQueue (nodeOf r []) (r .held) q) (atLimit d)
 
 -- a refused deliver, and an accepted one
-pub deliver-refused : (r : Record) (q out body : List ℕ) (k : ℕ) → k ≡ deliverRefusal r q (length out) (length body) → (k ≡ 0 → ⊥) → refuseDeliver k r q out body ≡ deliverCall r q out body
+pub deliver-refused : (r : Record) (q out body : List ℕ) (k : ℕ) → k ≡ deliverRefusal r q (shortOutputs (length out) (length body)) → (k ≡ 0 → ⊥) → refuseDeliver k r q out body ≡ deliverCall r q out body
 deliver-refused r q out body k e h = sym (deliver-by-refusal r q out body ∙ rw (← e, ne-eqb k 0 h))
 
-pub deliver-accepted : (r : Record) (q out body : List ℕ) → deliverRefusal r q (length out) (length body) ≡ 0
+pub deliver-accepted : (r : Record) (q out body : List ℕ) → deliverRefusal r q (shortOutputs (length out) (length body)) ≡ 0
     → acceptDeliver r q out body (concluded r q) (delivery ((concluded r q) .answer)) ≡ deliverCall r q out body
 deliver-accepted r q out body e = sym (deliver-by-refusal r q out body ∙ rw e)
 
 -- the checks of a deliver one after the other
-module _ (r : Record) (q : List ℕ) (out body : ℕ) where
-  pub deliver-2 : brokenRecord r ≡ true → deliverRefusal r q out body ≡ 2
+module _ (r : Record) (q : List ℕ) (short : Bool) where
+  pub deliver-record : (k : ℕ) → k ≡ recordRefusal r q short 0 → (k ≡ 0 → ⊥) → k ≡ deliverRefusal r q short
   unfolding deliverRefusal
-  deliver-2 a = rw a
+  deliver-record k e h = record-met r q short k _ e h
 
-  pub deliver-3 : brokenRecord r ≡ false → wrongLengths (length q) out body ≡ true → deliverRefusal r q out body ≡ 3
+  pub deliver-5 : RecordPassed r q short → atLimit (nodeAt r q) ≡ true → deliverRefusal r q short ≡ 5
   unfolding deliverRefusal
-  deliver-3 a b = rw (a, b)
+  deliver-5 p a = record-past r q short _ p ∙ rw a
 
-  pub deliver-4 : brokenRecord r ≡ false → wrongLengths (length q) out body ≡ false → wrongQueue (nodeOf r []) (r .held) q ≡ true → deliverRefusal r q out body ≡ 4
+  pub deliver-0 : RecordPassed r q short → atLimit (nodeAt r q) ≡ false → deliverRefusal r q short ≡ 0
   unfolding deliverRefusal
-  deliver-4 a b c = rw (a, b, c)
+  deliver-0 p a = record-past r q short _ p ∙ rw a
 
-  pub deliver-5 : brokenRecord r ≡ false → wrongLengths (length q) out body ≡ false → wrongQueue (nodeOf r []) (r .held) q ≡ false → atLimit (nodeAt r q) ≡ true → deliverRefusal r q out body ≡ 5
-  unfolding deliverRefusal
-  deliver-5 a b c d = rw (a, b, c, d)
+-- the lengths of the frame output and the body output
+module _ (out body : ℕ) where
+  pub short-out : out < outSize → shortOutputs out body ≡ true
+  short-out a = rw (lt-ltb out outSize a)
 
-  pub deliver-0 : brokenRecord r ≡ false → wrongLengths (length q) out body ≡ false → wrongQueue (nodeOf r []) (r .held) q ≡ false → atLimit (nodeAt r q) ≡ false → deliverRefusal r q out body ≡ 0
-  unfolding deliverRefusal
-  deliver-0 a b c d = rw (a, b, c, d)
-
--- the lengths: of the queue, the frame output and the body output
-module _ (q out body : ℕ) where
-  pub wrong-queue-length : (q ≡ queueSize → ⊥) → wrongLengths q out body ≡ true
-  wrong-queue-length a = rw (ne-eqb q queueSize a)
-
-  pub short-out : q ≡ queueSize → out < 2048 → wrongLengths q out body ≡ true
-  short-out a b = rw (eq-eqb q queueSize a, lt-ltb out 2048 b)
-
-  pub short-body : q ≡ queueSize → 2048 ≤ out → body < maxBody → wrongLengths q out body ≡ true
-  short-body a b c = rw (eq-eqb q queueSize a, le-ltb out 2048 b, lt-ltb body maxBody c)
-
-  pub right-lengths : q ≡ queueSize → 2048 ≤ out → maxBody ≤ body → wrongLengths q out body ≡ false
-  right-lengths a b c = rw (eq-eqb q queueSize a, le-ltb out 2048 b, le-ltb body maxBody c)
+  pub long-out : outSize ≤ out → shortOutputs out body ≡ ltb body maxBody
+  long-out a = rw (le-ltb out outSize a)
 
 -- what a deliver that passed its checks knows
 pub record Ready (r : Record) (q : List ℕ) (out body : ℕ) : Type 0 where
   pub sound : Unbroken (r .me) (r .n) (r .cap) (entry (r .m)) (vector (r .deliv)) (r .held)
-  pub long : 2048 ≤ out
+  pub long : outSize ≤ out
   pub room : maxBody ≤ body
   pub queue : CheckedQueue (r .held) q
   pub layout : q ≡ laid (heldFrames (r .held) q)
 
-pub deliver-ready : (r : Record) (q : List ℕ) (out body : ℕ) → deliverRefusal r q out body ≡ 0 → Ready r q out body
-unfolding deliverRefusal brokenRecord
+pub deliver-ready : (r : Record) (q : List ℕ) (out body : ℕ) → deliverRefusal r q (shortOutputs out body) ≡ 0 → Ready r q out body
+unfolding deliverRefusal
 deliver-ready r q out body e =
-    let p = skipped (brokenRecord r) 2 _ (omega arith) e in
-    let l = skipped (wrongLengths (length q) out body) 3 _ (omega arith) (p .1) in
-    let w = skipped (wrongQueue (nodeOf r []) (r .held) q) 4 _ (omega arith) (l .1) in
-    let passes : wrongQueue (nodeOf r []) (r .held) q ≡ false = is-false (wrongQueue (nodeOf r []) (r .held) q) (w .0) in
-    let t = no-three (not (eqb (length q) queueSize)) (ltb out 2048) (ltb body maxBody) (l .0) in
-    let sound = unbroken (r .me) (r .n) (r .cap) (r .m) (vector (r .deliv)) (r .held) (is-false (brokenRecord r) (p .0)) in
+    let p = record-passed r q (shortOutputs out body) _ e in
+    let t = or-not (ltb out outSize) (ltb body maxBody) (of-false (shortOutputs out body) (p .long)) in
     record {
-      sound = sound;
-      long = nltb→le out 2048 (t .1);
-      room = nltb→le body maxBody (t .2);
-      queue = record { node = nodeOf r []; few = sound .range .atMost12; most = sound .room; size = eqb→eq (length q) queueSize (not-not (eqb (length q) queueSize) (t .0)); passes = passes };
-      layout = queue-kept (nodeOf r []) (r .held) q passes .queue;
+      sound = p .sound;
+      long = nltb→le out outSize (t .0);
+      room = nltb→le body maxBody (t .1);
+      queue = checked-queue r q (shortOutputs out body) p;
+      layout = queue-laid r q (shortOutputs out body) p;
     }
 
 -- no held frame is deliverable

@@ -6,20 +6,18 @@ use mathlib.Core.Path.{_∙_, _≡_, refl, sym}
 use native.Mathlib.Decide.{ℕ-discrete}
 use native.Mathlib.Omega.{arith}
 use borrow.Author.Tests.{eq-eqb, ne-eqb}
-use lib.Dec.{eqb, eqb→eq}
+use lib.Dec.{eqb}
 use lib.ListN.{length, length-append, length-map}
 use Rattle.arrival.specs.Tests.{ready}
 use Rattle.arrival.specs.View.{arrivalRefusal}
 use Rattle.frame.proofs.Passed.{passes-kept}
 use Rattle.frame.specs.Frame.{decode}
 use Rattle.frame.specs.Refusals.{frameRefusal}
-use Rattle.holdback.proofs.Held.{queue-kept}
 use Rattle.holdback.proofs.Slots.{length-held}
 use Rattle.holdback.specs.Check.{wrongQueue}
-use Rattle.holdback.specs.Checked.{CheckedQueue}
 use Rattle.holdback.specs.Slots.{heldFrames, heldMessages, laid, queueSize}
-use Rattle.matrix.specs.Array.{entry, vector}
 use Rattle.matrix.specs.Message.{Message}
+use Rattle.node.proofs.Shared.{RecordPassed, first-met, first-none, queue-laid, record-met, record-past}
 use Rattle.node.specs.Answers.{AfterOffer, afterOffer}
 use Rattle.node.specs.Calls.{acceptOffer, offerCall, refusal, refuseOffer}
 use Rattle.node.specs.Checks.{holdRefusal, nodeAt, offerRefusal, recordRefusal}
@@ -27,8 +25,7 @@ use Rattle.node.specs.Record.{brokenRecord, nodeOf}
 use Rattle.protocol.specs.Answer.{Outcome, accepted, refuse}
 use Rattle.protocol.specs.Node.{Node}
 use Rattle.protocol.specs.Offer.{claimsTooMuch, deliverable, deliveredBefore, heldAlready, holding, noRoom, notForMe, offer}
-use Rattle.rules.proofs.Facts.{Unbroken, unbroken}
-use Rattle.wire.proofs.Tests.{is-false, neqb→ne, not-not, or-not, skipped}
+use Rattle.wire.proofs.Tests.{neqb→ne, or-not, skipped}
 use Rattle.wire.specs.Limits.{maxFrame}
 use Rattle.node.specs.declared.Node.{Node as Record}
 use Rattle.node.specs.declared.OfferAnswer.the-variants as offerAnswer
@@ -69,7 +66,7 @@ module _ (r : Record) (s q : List ℕ) (d : Node) (o : Outcome) (a : accepted (o
 
 pub offer-by-refusal : (r : Record) (s q : List ℕ)
     → offerCall r s q ≡ cond (eqb (offerRefusal r s q) 0) (acceptOffer r s q (holding (nodeAt r q) (decode s))) (refuseOffer (offerRefusal r s q) r q)
-unfolding offerCall offerRefusal holdRefusal offer after by
+unfolding offerCall offerRefusal recordRefusal holdRefusal offer after by
 offer-by-refusal r s q =
     let d = nodeAt r q in
     let m = decode s in
@@ -85,77 +82,18 @@ offer-refused r s q k e h = sym (offer-by-refusal r s q ∙ rw (← e, ne-eqb k 
 pub offer-accepted : (r : Record) (s q : List ℕ) → offerRefusal r s q ≡ 0 → acceptOffer r s q (holding (nodeAt r q) (decode s)) ≡ offerCall r s q
 offer-accepted r s q e = sym (offer-by-refusal r s q ∙ rw e)
 
--- the checks of an offer on record and queue, one after the other
-module _ (r : Record) (q : List ℕ) where
-  pub record-2 : brokenRecord r ≡ true → recordRefusal r q ≡ 2
-  unfolding recordRefusal
-  record-2 a = rw a
-
-  pub record-3 : brokenRecord r ≡ false → (length q ≡ 12832 → ⊥) → recordRefusal r q ≡ 3
-  unfolding recordRefusal
-  record-3 a b = rw (a, ne-eqb (length q) 12832 b)
-
-  pub record-4 : brokenRecord r ≡ false → length q ≡ 12832 → wrongQueue (nodeOf r []) (r .held) q ≡ true → recordRefusal r q ≡ 4
-  unfolding recordRefusal
-  record-4 a b c = rw (a, eq-eqb (length q) 12832 b, c)
-
-  pub record-0 : brokenRecord r ≡ false → length q ≡ 12832 → wrongQueue (nodeOf r []) (r .held) q ≡ false → recordRefusal r q ≡ 0
-  unfolding recordRefusal
-  record-0 a b c = rw (a, eq-eqb (length q) 12832 b, c)
-
--- what passing them tells
-pub record RecordPassed (r : Record) (q : List ℕ) : Type 0 where
-  pub sound : Unbroken (r .me) (r .n) (r .cap) (entry (r .m)) (vector (r .deliv)) (r .held)
-  pub size : length q ≡ 12832
-  pub keeps : brokenRecord r ≡ false
-  pub queue : wrongQueue (nodeOf r []) (r .held) q ≡ false
-
-pub record-passed : (r : Record) (q : List ℕ) → recordRefusal r q ≡ 0 → RecordPassed r q
-unfolding recordRefusal brokenRecord
-record-passed r q e =
-    let p = skipped (brokenRecord r) 2 _ (omega arith) e in
-    let s = skipped (not (eqb (length q) 12832)) 3 _ (omega arith) (p .1) in
-    let t = skipped (wrongQueue (nodeOf r []) (r .held) q) 4 0 (omega arith) (s .1) in
-    record {
-      sound = unbroken (r .me) (r .n) (r .cap) (r .m) (vector (r .deliv)) (r .held) (is-false (brokenRecord r) (p .0));
-      size = eqb→eq (length q) 12832 (not-not (eqb (length q) 12832) (s .0));
-      keeps = is-false (brokenRecord r) (p .0);
-      queue = is-false (wrongQueue (nodeOf r []) (r .held) q) (t .0);
-    }
-
-pub checked-queue : (r : Record) (q : List ℕ) → RecordPassed r q → CheckedQueue (r .held) q
-checked-queue r q p = record { node = nodeOf r []; few = p .sound .range .atMost12; most = p .sound .room; size = p .size; passes = p .queue }
-
--- the first of three checks with these numbers that is met, and x where none is
-abbrev pub firstOf : (i j k : ℕ) (a b c : Bool) → ℕ → ℕ
-firstOf i j k a b c x = cond a i (cond b j (cond c k x))
-
-first-met : (i j k x : ℕ) (a b c : Bool) → (firstOf i j k a b c 0 ≡ 0 → ⊥) → firstOf i j k a b c 0 ≡ firstOf i j k a b c x
-first-met i j k x true b c h = refl
-first-met i j k x false true c h = refl
-first-met i j k x false false true h = refl
-first-met i j k x false false false h = absurd (h refl)
-
-first-none : (i j k x : ℕ) (a b c : Bool) → (i ≡ 0 → ⊥) → (j ≡ 0 → ⊥) → (k ≡ 0 → ⊥) → firstOf i j k a b c 0 ≡ 0 → firstOf i j k a b c x ≡ x
-first-none i j k x true b c p q r e = absurd (p e)
-first-none i j k x false true c p q r e = absurd (q e)
-first-none i j k x false false true p q r e = absurd (r e)
-first-none i j k x false false false p q r e = refl
-
 -- a check of the record, of the frame, and of the protocol gives the refusal of the offer
-pub offer-record : (r : Record) (s q : List ℕ) (k : ℕ) → k ≡ recordRefusal r q → (k ≡ 0 → ⊥) → k ≡ offerRefusal r s q
-unfolding recordRefusal offerRefusal
-offer-record r s q k e h =
-    e ∙ first-met 2 3 4 (cond (not (eqb (frameRefusal (r .n) (r .cap) s) 0)) (frameRefusal (r .n) (r .cap) s) (holdRefusal (nodeAt r q) (decode s))) (brokenRecord r) (not (eqb (length q) 12832)) (wrongQueue (nodeOf r []) (r .held) q) (λ z. h (e ∙ z))
-
-pub offer-frame : (r : Record) (s q : List ℕ) → RecordPassed r q → (k : ℕ) → k ≡ frameRefusal (r .n) (r .cap) s → (k ≡ 0 → ⊥) → k ≡ offerRefusal r s q
+pub offer-record : (r : Record) (s q : List ℕ) (k : ℕ) → k ≡ recordRefusal r q false 0 → (k ≡ 0 → ⊥) → k ≡ offerRefusal r s q
 unfolding offerRefusal
-offer-frame r s q p k e h =
-    rw (p .keeps, eq-eqb (length q) 12832 (p .size), p .queue, ← e, ne-eqb k 0 h)
+offer-record r s q k e h = record-met r q false k _ e h
 
-pub offer-hold : (r : Record) (s q : List ℕ) → RecordPassed r q → frameRefusal (r .n) (r .cap) s ≡ 0 → offerRefusal r s q ≡ holdRefusal (nodeAt r q) (decode s)
+pub offer-frame : (r : Record) (s q : List ℕ) → RecordPassed r q false → (k : ℕ) → k ≡ frameRefusal (r .n) (r .cap) s → (k ≡ 0 → ⊥) → k ≡ offerRefusal r s q
 unfolding offerRefusal
-offer-hold r s q p e = rw (p .keeps, eq-eqb (length q) 12832 (p .size), p .queue, e)
+offer-frame r s q p k e h = sym (record-past r q false _ p ∙ rw (← e, ne-eqb k 0 h))
+
+pub offer-hold : (r : Record) (s q : List ℕ) → RecordPassed r q false → frameRefusal (r .n) (r .cap) s ≡ 0 → offerRefusal r s q ≡ holdRefusal (nodeAt r q) (decode s)
+unfolding offerRefusal
+offer-hold r s q p e = record-past r q false _ p ∙ rw e
 
 -- the protocol's checks of an offer, one after the other
 module _ (d : Node) (m : Message) where
@@ -216,13 +154,13 @@ pub record Holdable (r : Record) (s q : List ℕ) : Type 0 where
   pub room : r .held < 16
   pub fits : length s ≤ maxFrame
   pub queue : q ≡ laid (heldFrames (r .held) q)
-  pub size : length q ≡ 12832
+  pub size : length q ≡ queueSize
 
-pub holdable : (r : Record) (s q : List ℕ) → RecordPassed r q → frameRefusal (r .n) (r .cap) s ≡ 0 → holdRefusal (nodeAt r q) (decode s) ≡ 0 → Holdable r s q
+pub holdable : (r : Record) (s q : List ℕ) → RecordPassed r q false → frameRefusal (r .n) (r .cap) s ≡ 0 → holdRefusal (nodeAt r q) (decode s) ≡ 0 → Holdable r s q
 holdable r s q p f h =
     record {
       room = omega (arith, length-messages (r .held) q, hold-space (nodeAt r q) (decode s) h (rw (length-messages (r .held) q) (p .sound .room)));
       fits = (passes-kept (r .n) (r .cap) s f) .most;
-      queue = (queue-kept (nodeOf r []) (r .held) q (p .queue)) .queue;
+      queue = queue-laid r q false p;
       size = p .size;
     }

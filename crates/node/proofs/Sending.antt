@@ -23,6 +23,7 @@ use Rattle.node.specs.Answers.{AfterSend, afterSend}
 use Rattle.node.specs.Calls.{acceptSend, refusal, refuseSend, sendCall}
 use Rattle.node.specs.Checks.{sendRefusal}
 use Rattle.node.specs.Record.{brokenRecord, nodeOf}
+use Rattle.node.specs.Sizes.{outSize}
 use Rattle.protocol.specs.Answer.{Outcome, accepted, refuse}
 use Rattle.protocol.specs.Node.{Node, atLimit}
 use Rattle.protocol.specs.Send.{badDestination, longBody, send, sending}
@@ -56,7 +57,7 @@ pub send-by-refusal : (r : Record) (to : ℕ) (body out : List ℕ)
     ≡ cond (eqb (sendRefusal r to (length body) (length out)) 0) (acceptSend r out (sending (nodeOf r []) to body)) (refuseSend (sendRefusal r to (length body) (length out)) r out)
 unfolding sendCall sendRefusal send after
 send-by-refusal r to body out =
-    by-checks r out (nodeOf r []) (sending (nodeOf r []) to body) refl (brokenRecord r) (ltb (length out) 2048) (atLimit (nodeOf r [])) (badDestination (nodeOf r []) to) (longBody body)
+    by-checks r out (nodeOf r []) (sending (nodeOf r []) to body) refl (brokenRecord r) (ltb (length out) outSize) (atLimit (nodeOf r [])) (badDestination (nodeOf r []) to) (longBody body)
 
 -- a refused send, and an accepted one
 pub send-refused : (r : Record) (to : ℕ) (body out : List ℕ) (k : ℕ) → k ≡ sendRefusal r to (length body) (length out) → (k ≡ 0 → ⊥) → refuseSend k r out ≡ sendCall r to body out
@@ -96,30 +97,30 @@ module _ (r : Record) (to body out : ℕ) where
   unfolding sendRefusal
   send-2 a = rw a
 
-  pub send-3 : brokenRecord r ≡ false → out < 2048 → sendRefusal r to body out ≡ 3
+  pub send-3 : brokenRecord r ≡ false → out < outSize → sendRefusal r to body out ≡ 3
   unfolding sendRefusal
-  send-3 a b = rw (a, lt-ltb out 2048 b)
+  send-3 a b = rw (a, lt-ltb out outSize b)
 
-  pub send-5 : brokenRecord r ≡ false → 2048 ≤ out → atLimit (nodeOf r []) ≡ true → sendRefusal r to body out ≡ 5
+  pub send-5 : brokenRecord r ≡ false → outSize ≤ out → atLimit (nodeOf r []) ≡ true → sendRefusal r to body out ≡ 5
   unfolding sendRefusal
-  send-5 a b c = rw (a, le-ltb out 2048 b, c)
+  send-5 a b c = rw (a, le-ltb out outSize b, c)
 
-  pub send-6 : brokenRecord r ≡ false → 2048 ≤ out → atLimit (nodeOf r []) ≡ false → badDestination (nodeOf r []) to ≡ true → sendRefusal r to body out ≡ 6
+  pub send-6 : brokenRecord r ≡ false → outSize ≤ out → atLimit (nodeOf r []) ≡ false → badDestination (nodeOf r []) to ≡ true → sendRefusal r to body out ≡ 6
   unfolding sendRefusal
-  send-6 a b c d = rw (a, le-ltb out 2048 b, c, d)
+  send-6 a b c d = rw (a, le-ltb out outSize b, c, d)
 
-  pub send-7 : brokenRecord r ≡ false → 2048 ≤ out → atLimit (nodeOf r []) ≡ false → badDestination (nodeOf r []) to ≡ false → maxBody < body → sendRefusal r to body out ≡ 7
+  pub send-7 : brokenRecord r ≡ false → outSize ≤ out → atLimit (nodeOf r []) ≡ false → badDestination (nodeOf r []) to ≡ false → maxBody < body → sendRefusal r to body out ≡ 7
   unfolding sendRefusal
-  send-7 a b c d e = rw (a, le-ltb out 2048 b, c, d, lt-ltb maxBody body e)
+  send-7 a b c d e = rw (a, le-ltb out outSize b, c, d, lt-ltb maxBody body e)
 
-  pub send-0 : brokenRecord r ≡ false → 2048 ≤ out → atLimit (nodeOf r []) ≡ false → badDestination (nodeOf r []) to ≡ false → body ≤ maxBody → sendRefusal r to body out ≡ 0
+  pub send-0 : brokenRecord r ≡ false → outSize ≤ out → atLimit (nodeOf r []) ≡ false → badDestination (nodeOf r []) to ≡ false → body ≤ maxBody → sendRefusal r to body out ≡ 0
   unfolding sendRefusal
-  send-0 a b c d e = rw (a, le-ltb out 2048 b, c, d, le-ltb maxBody body e)
+  send-0 a b c d e = rw (a, le-ltb out outSize b, c, d, le-ltb maxBody body e)
 
 -- what a send that passed its checks knows
 pub record Sendable (r : Record) (to body out : ℕ) : Type 0 where
   pub sound : Unbroken (r .me) (r .n) (r .cap) (entry (r .m)) (vector (r .deliv)) (r .held)
-  pub long : 2048 ≤ out
+  pub long : outSize ≤ out
   pub destination : to < r .n
   pub short : body ≤ maxBody
   pub below : (y : ℕ) → y < 12 → entry (r .m) (r .me) y < maxCount
@@ -128,7 +129,7 @@ pub sendable : (r : Record) (to body out : ℕ) → sendRefusal r to body out �
 unfolding sendRefusal brokenRecord
 sendable r to body out e =
     let p = skipped (brokenRecord r) 2 _ (omega arith) e in
-    let q = skipped (ltb out 2048) 3 _ (omega arith) (p .1) in
+    let q = skipped (ltb out outSize) 3 _ (omega arith) (p .1) in
     let s = skipped (atLimit (nodeOf r [])) 5 _ (omega arith) (q .1) in
     let t = skipped (badDestination (nodeOf r []) to) 6 _ (omega arith) (s .1) in
     let u = skipped (ltb maxBody body) 7 0 (omega arith) (t .1) in
@@ -136,7 +137,7 @@ sendable r to body out e =
     let sound = unbroken (r .me) (r .n) (r .cap) (r .m) (vector (r .deliv)) (r .held) (is-false (brokenRecord r) (p .0)) in
     record {
       sound = sound;
-      long = nltb→le out 2048 (q .0);
+      long = nltb→le out outSize (q .0);
       destination = ltb→lt to (r .n) (not-not (ltb to (r .n)) (d .1));
       short = nltb→le maxBody body (u .0);
       below = limit-row (nodeOf r []) (s .0) (sound .limit);

@@ -1,8 +1,6 @@
 -- The answers: document 01's number of each (0 where the call is not refused), and what the caller holds after a call.
 use Prim.Native.Nat.{ℕ}
 use mathlib.Core.List.{List}
-use Rattle.matrix.specs.Message.{Kind, user, extra}
-use Rattle.node.specs.declared.Node.{Node as Record}
 use Rattle.node.specs.declared.Sent.{Sent}
 use Rattle.node.specs.declared.Offered.{Offered}
 use Rattle.node.specs.declared.Delivery.{Delivery}

@@ -1,7 +1,7 @@
 -- The calls on record and bytes: checks in rising order, the first that is met given; then what the protocol does on messages, written back.
 -- A refusal hands back the same record and the same bytes.
-use Prim.Native.Nat.{ℕ, suc, _-_}
-use mathlib.Core.Bool.{Bool, true, false, not, cond, _||_}
+use Prim.Native.Nat.{ℕ, _-_}
+use mathlib.Core.Bool.{Bool, false, not, cond, _||_}
 use mathlib.Core.List.{List, [], _∷_, _++_}
 use mathlib.Core.Option.{Option, none, some}
 use lib.Dec.{eqb, ltb}
@@ -9,7 +9,7 @@ use lib.ListN.{length}
 use Rattle.wire.specs.Limits.{maxBody}
 use Rattle.wire.specs.Bytes.{put}
 use Rattle.matrix.specs.Array.{listFrom, flat}
-use Rattle.matrix.specs.Message.{Kind, Message}
+use Rattle.matrix.specs.Message.{Message}
 use Rattle.frame.specs.Header.{kindByte}
 use Rattle.frame.specs.Frame.{decode}
 use Rattle.frame.specs.Frames.{framesOf}
@@ -24,12 +24,9 @@ use Rattle.node.specs.declared.Node.{Node as Record}
 use Rattle.node.specs.declared.SendAnswer.the-variants as sendAnswer
 use Rattle.node.specs.declared.OfferAnswer.the-variants as offerAnswer
 use Rattle.node.specs.declared.DeliverAnswer.the-variants as deliverAnswer
+use Rattle.node.specs.Sizes.{outSize}
 use Rattle.node.specs.Record.{brokenRecord, nodeOf}
 use Rattle.node.specs.Answers.{AfterSend, AfterOffer, AfterDeliver, afterSend, afterOffer, afterDeliver}
-
--- the shortest frame output
-abbrev pub outSize : ℕ
-outSize = 2048
 
 -- the number of a refusal of the protocol
 abbrev pub refusal : Answer → ℕ
@@ -140,6 +137,6 @@ unfoldable pub deliverCall : Record → List ℕ → List ℕ → List ℕ → A
 deliverCall r q out body =
     let o : Outcome = deliver (nodeOf r (heldMessages (r .held) q)) in
     cond (brokenRecord r) (refuseDeliver 2 r q out body)
-    (cond (not (eqb (length q) queueSize) || ltb (length out) outSize || ltb (length body) maxBody) (refuseDeliver 3 r q out body)
+    (cond (ltb (length out) outSize || ltb (length body) maxBody || not (eqb (length q) queueSize)) (refuseDeliver 3 r q out body)
     (cond (wrongQueue (nodeOf r []) (r .held) q) (refuseDeliver 4 r q out body)
     (cond (accepted (o .answer)) (acceptDeliver r q out body o (delivery (o .answer))) (refuseDeliver (refusal (o .answer)) r q out body))))

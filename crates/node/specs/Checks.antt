@@ -1,6 +1,6 @@
 -- The refusals of each call as numbers: the first check that is met, in rising order, and 0 where none is.
 use Prim.Native.Nat.{ℕ}
-use mathlib.Core.Bool.{Bool, cond, not, _||_}
+use mathlib.Core.Bool.{Bool, cond, false, not, _||_}
 use mathlib.Core.List.{List, []}
 use lib.Dec.{eqb, ltb}
 use lib.ListN.{length}
@@ -14,12 +14,13 @@ use Rattle.protocol.specs.Offer.{notForMe, claimsTooMuch, deliveredBefore, held
 use Rattle.holdback.specs.Slots.{queueSize, heldMessages}
 use Rattle.holdback.specs.Check.{wrongQueue}
 use Rattle.node.specs.declared.Node.{Node as Record}
+use Rattle.node.specs.Sizes.{outSize}
 use Rattle.node.specs.Record.{brokenRecord, nodeOf}
 
 -- send: 2, 3, 5, 6, 7, for a body and a frame output of these lengths
 unfoldable pub sendRefusal : Record → ℕ → ℕ → ℕ → ℕ
 sendRefusal r to body out =
-    cond (brokenRecord r) 2 (cond (ltb out 2048) 3 (cond (atLimit (nodeOf r [])) 5 (cond (badDestination (nodeOf r []) to) 6 (cond (ltb maxBody body) 7 0))))
+    cond (brokenRecord r) 2 (cond (ltb out outSize) 3 (cond (atLimit (nodeOf r [])) 5 (cond (badDestination (nodeOf r []) to) 6 (cond (ltb maxBody body) 7 0))))
 
 -- the protocol's node of a record and its queue
 abbrev pub nodeAt : Record → List ℕ → Node
@@ -29,23 +30,20 @@ nodeAt r q = nodeOf r (heldMessages (r .held) q)
 unfoldable pub holdRefusal : Node → Message → ℕ
 holdRefusal d m = cond (notForMe d m) 12 (cond (claimsTooMuch d m) 13 (cond (deliveredBefore d m) 14 (cond (heldAlready d m) 15 (cond (noRoom d m) 16 0))))
 
--- the checks of an offer on record and queue alone: 2 to 4
-unfoldable pub recordRefusal : Record → List ℕ → ℕ
-recordRefusal r q = cond (brokenRecord r) 2 (cond (not (eqb (length q) queueSize)) 3 (cond (wrongQueue (nodeOf r []) (r .held) q) 4 0))
+-- 2 to 4 on record and queue, and k where none is met; 3: another lent buffer is too short, or the shelf's length is not 12,832
+unfoldable pub recordRefusal : Record → List ℕ → Bool → ℕ → ℕ
+recordRefusal r q short k =
+    cond (brokenRecord r) 2 (cond (short || not (eqb (length q) queueSize)) 3 (cond (wrongQueue (nodeOf r []) (r .held) q) 4 k))
 
--- offer: 2 to 4, 8 to 11, 12 to 16
+-- offer: 2 to 4, 8 to 11, 12 to 16; it is lent the queue alone
 unfoldable pub offerRefusal : Record → List ℕ → List ℕ → ℕ
 offerRefusal r s q =
-    cond (brokenRecord r) 2
-    (cond (not (eqb (length q) queueSize)) 3
-    (cond (wrongQueue (nodeOf r []) (r .held) q) 4
-    (cond (not (eqb (frameRefusal (r .n) (r .cap) s) 0)) (frameRefusal (r .n) (r .cap) s) (holdRefusal (nodeAt r q) (decode s)))))
+    recordRefusal r q false (cond (not (eqb (frameRefusal (r .n) (r .cap) s) 0)) (frameRefusal (r .n) (r .cap) s) (holdRefusal (nodeAt r q) (decode s)))
 
--- 3 of deliver: a lent buffer is too short, or the shelf's length is not 12,832
-abbrev pub wrongLengths : ℕ → ℕ → ℕ → Bool
-wrongLengths q out body = not (eqb q queueSize) || ltb out 2048 || ltb body maxBody
+-- outputs of these lengths are too short for a deliver
+abbrev pub shortOutputs : ℕ → ℕ → Bool
+shortOutputs out body = ltb out outSize || ltb body maxBody
 
--- deliver: 2 to 5, for outputs of these lengths
-unfoldable pub deliverRefusal : Record → List ℕ → ℕ → ℕ → ℕ
-deliverRefusal r q out body =
-    cond (brokenRecord r) 2 (cond (wrongLengths (length q) out body) 3 (cond (wrongQueue (nodeOf r []) (r .held) q) 4 (cond (atLimit (nodeAt r q)) 5 0)))
+-- deliver: 2 to 5, for outputs that are too short or not
+unfoldable pub deliverRefusal : Record → List ℕ → Bool → ℕ
+deliverRefusal r q short = recordRefusal r q short (cond (atLimit (nodeAt r q)) 5 0)

@@ -1,5 +1,4 @@
 -- The record, its rules (check 2), and the protocol's node that it stands for.
-use Prim.Native.Nat.{ℕ}
 use mathlib.Core.Bool.{Bool}
 use mathlib.Core.List.{List}
 use lib.ListN.{length}

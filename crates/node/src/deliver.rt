@@ -3,9 +3,10 @@ use super::DeliverAnswer;
 use super::Delivered;
 use super::Delivery;
 use super::Node;
+use super::checks::record_refusal;
 use trim::Issued;
 ghost use mathlib.Core.Path.{_≡_};
-ghost use mathlib.Core.List.{List, []};
+ghost use mathlib.Core.List.{[]};
 ghost use Prim.Native.Nat.{ℕ, _≤_, _<_};
 ghost use lib.ListN.{length};
 ghost use Rattle.wire.specs.Bytes.{put};
@@ -19,10 +20,19 @@ ghost use Rattle.protocol.specs.Trim.{Trimmed};
 ghost use Rattle.protocol.specs.Deliver.{countUp, learn};
 ghost use Rattle.arrival.specs.Checked.{Checked};
 ghost use Rattle.arrival.specs.View.{nodeWith};
-ghost use Rattle.node.specs.declared.Node.{Node as Record};
 ghost use Rattle.node.specs.Answers.{afterDeliver};
 ghost use Rattle.node.specs.Calls.{deliverCall};
-ghost use Rattle.node.specs.Checks.{deliverRefusal};
+ghost use Rattle.node.specs.Checks.{deliverRefusal, shortOutputs};
+
+// Whether the frame output or the body output is too short.
+fn short_outputs(out: usize, body: usize) -> bool
+    ensures { λ r. ⌜ r ≡ shortOutputs out body ⌝ }
+{
+    if out < Node::OUT_SIZE {
+        return true;
+    }
+    body < wire::MAX_BODY
+}
 
 // The refusal of a deliver: the first check that is met, and 0 where none is.
 fn refusal<'a>(
@@ -32,27 +42,15 @@ fn refusal<'a>(
     m: &'a [u32; 144],
     deliv: &'a [u32; 12],
     held: u8,
-    q: &[u8],
-    out: usize,
-    body: usize,
+    queue: &[u8],
+    short: bool,
 ) -> u8
     requires { ⌜ (length (now m) ≡ 144) × (length (now deliv) ≡ 12) ⌝ }
-    ensures { λ r. ⌜ r ≡ deliverRefusal (record { me = me; n = n; cap = cap; m = now (m .entry); deliv = now (deliv .entry); held = held }) (now (q .entry)) out body ⌝ }
+    ensures { λ r. ⌜ r ≡ deliverRefusal (record { me = me; n = n; cap = cap; m = now (m .entry); deliv = now (deliv .entry); held = held }) (now (queue .entry)) short ⌝ }
 {
-    if rules::broken(me, n, cap, m, deliv, held) {
-        return 2;
-    }
-    if q.len() != 12832 {
-        return 3;
-    }
-    if out < 2048 {
-        return 3;
-    }
-    if body < wire::MAX_BODY {
-        return 3;
-    }
-    if holdback::wrong_queue(q, held as usize, me, n, cap, m, deliv) {
-        return 4;
+    let why = record_refusal(me, n, cap, m, deliv, held, queue, short);
+    if why != 0 {
+        return why;
     }
     if rules::at_limit(me as usize, m, deliv) {
         return 5;
@@ -120,50 +118,26 @@ impl Node {
         let n = self.n;
         let cap = self.cap;
         let held = self.held as usize;
-        let why = refusal(
-            me,
-            n,
-            cap,
-            &self.m,
-            &self.deliv,
-            self.held,
-            queue,
-            out.len(),
-            body.len(),
-        );
+        let short = short_outputs(out.len(), body.len());
+        let why = refusal(me, n, cap, &self.m, &self.deliv, self.held, queue, short);
         if why != 0 {
-            return Delivery {
-                answer: DeliverAnswer::Refused(why),
-                node: self,
-            };
+            let answer = DeliverAnswer::Refused(why);
+            return Delivery { answer, node: self };
         }
         let place = holdback::search(queue, held, me, &self.deliv);
         if place == 0 {
-            return Delivery {
-                answer: DeliverAnswer::Nothing(held),
-                node: self,
-            };
+            let answer = DeliverAnswer::Nothing(held);
+            return Delivery { answer, node: self };
         }
         let mut next = self;
         let at = place - 1;
-        let start = wire::MAX_FRAME * at;
-        let end = holdback::frame_end(queue, at);
-        let d = take_in(
-            &queue[start..end],
-            place,
-            &mut next.m,
-            out,
-            body,
-            me,
-            n,
-            cap,
-        );
+        let a = wire::MAX_FRAME * at;
+        let z = holdback::frame_end(queue, at);
+        let d = take_in(&queue[a..z], place, &mut next.m, out, body, me, n, cap);
         count_up(&mut next.deliv, d.from as usize);
         holdback::remove(queue, held, at);
         next.held = (held - 1) as u8;
-        Delivery {
-            answer: DeliverAnswer::Frame(d),
-            node: next,
-        }
+        let answer = DeliverAnswer::Frame(d);
+        Delivery { answer, node: next }
     }
 }

@@ -1,4 +1,5 @@
 //! The causal node: its record, set-up, send, offer and deliver. The record goes into each call by value and comes back with its answer.
+mod checks;
 mod deliver;
 mod offer;
 mod send;
@@ -29,6 +30,12 @@ impl Node {
 
     /// The largest count.
     pub const MAX_COUNT: u32 = wire::MAX_COUNT;
+
+    /// Bytes of the hold-back queue.
+    pub const QUEUE_SIZE: usize = holdback::QUEUE_SIZE;
+
+    /// Bytes of the frame output at least.
+    pub const OUT_SIZE: usize = 2048;
 }
 
 /// What set-up answers: a refusal's number, or that the record is ready.

@@ -2,9 +2,9 @@
 use super::Node;
 use super::OfferAnswer;
 use super::Offered;
+use super::checks::record_refusal;
 ghost use mathlib.Core.Path.{_≡_};
 ghost use Prim.Native.Nat.{ℕ};
-ghost use lib.ListN.{length};
 ghost use Rattle.frame.specs.Frame.{decode};
 ghost use Rattle.protocol.specs.Node.{Node as State};
 ghost use Rattle.protocol.specs.Offer.{deliverable};
@@ -14,32 +14,10 @@ ghost use Rattle.arrival.specs.View.{nodeWith};
 ghost use Rattle.arrival.specs.Checked.{Checked};
 ghost use Rattle.node.specs.Answers.{afterOffer};
 ghost use Rattle.node.specs.Calls.{offerCall};
-ghost use Rattle.node.specs.Checks.{holdRefusal, recordRefusal};
+ghost use Rattle.node.specs.Checks.{holdRefusal};
 
-// The refusals of an offer that look at record and queue alone: 2 to 4, and 0 where none is met.
-fn record_refusal<'a>(
-    me: u8,
-    n: u8,
-    cap: u8,
-    m: &'a [u32; 144],
-    deliv: &'a [u32; 12],
-    held: u8,
-    queue: &[u8],
-) -> u8
-    requires { ⌜ (length (now m) ≡ 144) × (length (now deliv) ≡ 12) ⌝ }
-    ensures { λ r. ⌜ r ≡ recordRefusal (record { me = me; n = n; cap = cap; m = now (m .entry); deliv = now (deliv .entry); held = held }) (now (queue .entry)) ⌝ }
-{
-    if rules::broken(me, n, cap, m, deliv, held) {
-        return 2;
-    }
-    if queue.len() != 12832 {
-        return 3;
-    }
-    if holdback::wrong_queue(queue, held as usize, me, n, cap, m, deliv) {
-        return 4;
-    }
-    0
-}
+/// Frames held where only a deliverable one is still taken.
+const LAST_SLOT: usize = wire::MAX_HELD - 1;
 
 /// A refusal's number, or 0, and whether the frame is deliverable now where no earlier check is met.
 struct Verdict {
@@ -52,7 +30,7 @@ fn hold_refusal<'a>(
     me: u8,
     m: &'a [u32; 144],
     deliv: &'a [u32; 12],
-    held: u8,
+    held: usize,
     queue: &[u8],
     frame: &[u8],
 ) -> Verdict
@@ -63,17 +41,17 @@ fn hold_refusal<'a>(
     if why != 0 {
         return Verdict { why, ready: false };
     }
-    if holdback::alike(queue, held as usize, frame) {
+    if holdback::alike(queue, held, frame) {
         return Verdict {
             why: 15,
             ready: false,
         };
     }
     let ready = arrival::deliverable(frame, me, deliv);
-    if held == 16 {
+    if held == wire::MAX_HELD {
         return Verdict { why: 16, ready };
     }
-    if held != 15 {
+    if held != LAST_SLOT {
         return Verdict { why: 0, ready };
     }
     if ready {
@@ -91,36 +69,28 @@ impl Node {
         let n = self.n;
         let cap = self.cap;
         let held = self.held;
-        let why = record_refusal(me, n, cap, &self.m, &self.deliv, held, queue);
+        let why = record_refusal(me, n, cap, &self.m, &self.deliv, held, queue, false);
         if why != 0 {
-            return Offered {
-                answer: OfferAnswer::Refused(why),
-                node: self,
-            };
+            let answer = OfferAnswer::Refused(why);
+            return Offered { answer, node: self };
         }
         let bad = frame::check::refusal(frame, n, cap);
         if bad != 0 {
-            return Offered {
-                answer: OfferAnswer::Refused(bad),
-                node: self,
-            };
+            let answer = OfferAnswer::Refused(bad);
+            return Offered { answer, node: self };
         }
-        let v = hold_refusal(me, &self.m, &self.deliv, held, queue, frame);
+        let v = hold_refusal(me, &self.m, &self.deliv, held as usize, queue, frame);
         if v.why != 0 {
-            return Offered {
-                answer: OfferAnswer::Refused(v.why),
-                node: self,
-            };
+            let answer = OfferAnswer::Refused(v.why);
+            return Offered { answer, node: self };
         }
         holdback::hold(queue, held as usize, frame);
         let mut next = self;
         next.held = held + 1;
-        Offered {
-            answer: OfferAnswer::Held {
-                count: held as usize + 1,
-                ready: v.ready,
-            },
-            node: next,
-        }
+        let answer = OfferAnswer::Held {
+            count: held as usize + 1,
+            ready: v.ready,
+        };
+        Offered { answer, node: next }
     }
 }

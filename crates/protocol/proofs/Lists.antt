@@ -2,7 +2,7 @@
 use Prim.Native.Nat.{ℕ, zero, suc, _<_}
 use mathlib.Core.List.{List, [], _∷_, _++_, map}
 use mathlib.Core.Logic.{_⊎_, inl, inr}
-use mathlib.Core.Option.{some}
+use mathlib.Core.Option.{none, some}
 use mathlib.Core.Path.{_≡_, refl, ap}
 use native.Mathlib.Omega.{arith}
 use lib.ListN.{getElem?, length}
@@ -64,3 +64,14 @@ pub map-at : {A B : Type 0} (f : A → B) (l : List A) (p : ℕ) (b : B) → get
 map-at f [] p b e = absurd (at-none p b e)
 map-at f (x ∷ l) zero b e = (x, refl, cc)
 map-at f (x ∷ l) (suc p) b e = map-at f l p b e
+
+-- and the other way: an element and its place, or no element
+pub at-map : {A B : Type 0} (f : A → B) (l : List A) (p : ℕ) (a : A) → getElem? l p ≡ some a → getElem? (map f l) p ≡ some (f a)
+at-map f [] p a e = absurd (at-none p a e)
+at-map f (x ∷ l) zero a e = let z : x ≡ a = cc in ap (λ (y : _). some (f y)) z
+at-map f (x ∷ l) (suc p) a e = at-map f l p a e
+
+pub none-map : {A B : Type 0} (f : A → B) (l : List A) (p : ℕ) → getElem? l p ≡ none → getElem? (map f l) p ≡ none
+none-map f [] p e = refl
+none-map f (x ∷ l) zero e = let z : _≡_ {A = ℕ} 0 1 = cc in absurd (omega arith)
+none-map f (x ∷ l) (suc p) e = none-map f l p e

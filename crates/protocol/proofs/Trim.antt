@@ -1,5 +1,5 @@
--- Trim: twelve rounds are enough, it ends within the cap, and it issues at most one message to each destination.
-use Prim.Native.Nat.{ℕ, zero, suc, _≤_, _<_}
+-- Trim: twelve rounds are enough, it ends within the cap, and it issues at most one message to each destination, one in a round.
+use Prim.Native.Nat.{ℕ, zero, suc, _+_, _≤_, _<_}
 use mathlib.Core.Bool.{not, cond}
 use mathlib.Core.List.{List, [], _∷_}
 use mathlib.Core.Logic.{_⊎_, inl, inr, _≢_}
@@ -7,8 +7,12 @@ use mathlib.Core.Path.{_≡_, refl, sym, ap, _∙_}
 use native.Mathlib.Decide.{ℕ-discrete, decLe}
 use native.Mathlib.Omega.{arith}
 use lib.Dec.{T, leb, leb→le, le→leb, nleb→lt}
+use lib.ListN.{length}
+use Rattle.matrix.proofs.Array.{entry-back}
+use Rattle.matrix.proofs.Cleared.{Inside, clear-le, inside-clear}
 use Rattle.matrix.proofs.Columns.{MatrixRules, fullest-lt, fullest-two, two-below, two-other, clear-rules, clear-one, clear-same, crowded, crowded-le, crowded-down, crowded-some}
 use Rattle.matrix.proofs.Matrix.{clear-mine, clear-keep}
+use Rattle.matrix.specs.Array.{entry, flat}
 use Rattle.matrix.specs.Matrix.{Matrix, columnCount, count, fullest, clear}
 use Rattle.matrix.specs.Message.{Message, extraMessage}
 use Rattle.protocol.specs.Trim.{Trimmed, untouched, issuing, trimFor}
@@ -99,3 +103,34 @@ rounds-row n cap me m extras m′ hi hn (round _ _ o l hl ne two _ r) y = go (�
         let q′ : clear me l m me y ≡ suc (m me y) = rw e (clear-mine me l m) in
         (omega arith, λ c. let c′ : columnCount m l ≤ 1 = rw e at c in absurd (omega arith))
     go (no e) h = let q : clear me l m me y ≡ m me y = clear-keep me l m me y e in (rw q at (h .0), λ c. h .1 (rw (clear-same me l m y e) c) ∙ q)
+
+-- at most one message is issued in a round
+pub trim-few : (k me n cap : ℕ) (m : Matrix) → length (trimFor k me n cap m .extras) ≤ k
+unfolding trimFor
+trim-few zero me n cap m = omega arith
+trim-few (suc k) me n cap m =
+    cond-elim (λ (t : Trimmed). length (t .extras) ≤ suc k) (leb (count m) cap) (untouched m) (issuing (extraMessage me (fullest m) n cap m) (trimFor k me n cap (clear me (fullest m) m)))
+    (λ _. omega arith)
+    (λ _. omega (arith, trim-few k me n cap (clear me (fullest m) m)))
+
+-- an entry goes up by at most one in a round
+pub trim-grows : (k me n cap : ℕ) (m : Matrix) (x y : ℕ) → trimFor k me n cap m .matrix x y ≤ m x y + k
+unfolding trimFor
+trim-grows zero me n cap m x y = omega arith
+trim-grows (suc k) me n cap m x y =
+    cond-elim (λ (t : Trimmed). t .matrix x y ≤ m x y + suc k) (leb (count m) cap) (untouched m) (issuing (extraMessage me (fullest m) n cap m) (trimFor k me n cap (clear me (fullest m) m)))
+    (λ _. omega arith)
+    (λ _. omega (arith, trim-grows k me n cap (clear me (fullest m) m) x y, clear-le me (fullest m) m x y))
+
+-- a matrix that is zero outside its twelve rows and columns stays so
+pub trim-inside : (k me n cap : ℕ) (m : Matrix) → me < 12 → Inside m → Inside (trimFor k me n cap m .matrix)
+unfolding trimFor
+trim-inside zero me n cap m hm z = z
+trim-inside (suc k) me n cap m hm z =
+    cond-elim (λ (t : Trimmed). Inside (t .matrix)) (leb (count m) cap) (untouched m) (issuing (extraMessage me (fullest m) n cap m) (trimFor k me n cap (clear me (fullest m) m)))
+    (λ _. z)
+    (λ _. trim-inside k me n cap (clear me (fullest m) m) hm (inside-clear me (fullest m) m hm (fullest-lt m) z))
+
+-- so the array that `trim` leaves has the trimmed matrix
+pub trim-back : (me n cap : ℕ) (m : Matrix) → me < 12 → Inside m → entry (flat (trimFor 12 me n cap m .matrix)) ≡ trimFor 12 me n cap m .matrix
+trim-back me n cap m hm z = entry-back (trimFor 12 me n cap m .matrix) (trim-inside 12 me n cap m hm z)

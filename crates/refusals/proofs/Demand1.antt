@@ -19,7 +19,7 @@ use Rattle.node.proofs.Offering.{offer-by-refusal}
 use Rattle.node.proofs.Sending.{send-by-refusal}
 use Rattle.node.specs.Answers.{AfterDeliver, AfterOffer, AfterSend, deliverNumber, offerNumber, sendNumber, setUpNumber}
 use Rattle.node.specs.Calls.{acceptDeliver, acceptOffer, acceptSend, deliverCall, offerCall, refuseDeliver, refuseOffer, refuseSend, sendCall}
-use Rattle.node.specs.Checks.{deliverRefusal, holdRefusal, nodeAt, offerRefusal, sendRefusal}
+use Rattle.node.specs.Checks.{deliverRefusal, holdRefusal, nodeAt, offerRefusal, recordRefusal, sendRefusal}
 use Rattle.node.specs.Record.{brokenRecord, nodeOf}
 use Rattle.node.specs.SetUp.{freshRecord, setUp}
 use Rattle.protocol.specs.Answer.{Label, Outcome, delivery}
@@ -122,7 +122,7 @@ frame-checks false false false true x = refl
 frame-checks false false false false x = refl
 
 offer-first : (r : Record) (s q : List ℕ) → offerRefusal r s q ≡ firstMet (offerChecks r s q)
-unfolding offerRefusal frameRefusal holdRefusal
+unfolding offerRefusal recordRefusal frameRefusal holdRefusal
 offer-first r s q =
     ap (λ (k : ℕ). cond (brokenRecord r) 2 (cond (not (eqb (length q) queueSize)) 3 (cond (wrongQueue (nodeOf r []) (r .held) q) 4 k)))
     (frame-checks (wrongTrailer s) (wrongKind (header s)) (wrongAddress (r .n) (r .cap) (header s)) (wrongContent (r .n) (r .cap) s) (holdRefusal (nodeAt r q) (decode s)))
@@ -163,7 +163,7 @@ accepted-not r q out body o (some a) k e = let z : _≡_ {A = ℕ} 0 1 = cc in a
 deliver-by : (r : Record) (q out body : List ℕ)
     → deliverCall r q out body
     ≡ cond (eqb (firstMet (deliverChecks r q out body)) 0) (acceptDeliver r q out body (concluded r q) (delivery ((concluded r q) .answer))) (refuseDeliver (firstMet (deliverChecks r q out body)) r q out body)
-unfolding deliverRefusal atLimit
+unfolding deliverRefusal recordRefusal atLimit
 deliver-by r q out body = deliver-by-refusal r q out body
 
 deliver-says : (r : Record) (q out body : List ℕ) → DeliverSays r q out body (deliverCall r q out body)

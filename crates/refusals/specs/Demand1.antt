@@ -26,7 +26,8 @@ use Rattle.node.specs.declared.DeliverAnswer.the-variants as deliverAnswer
 use Rattle.node.specs.Record.{brokenRecord, nodeOf}
 use Rattle.node.specs.SetUp.{freshRecord, setUp}
 use Rattle.node.specs.Answers.{AfterDeliver, AfterOffer, AfterSend, deliverNumber, offerNumber, sendNumber, setUpNumber}
-use Rattle.node.specs.Calls.{deliverCall, offerCall, outSize, sendCall}
+use Rattle.node.specs.Sizes.{outSize}
+use Rattle.node.specs.Calls.{deliverCall, offerCall, sendCall}
 use Rattle.node.specs.Checks.{nodeAt}
 
 -- ---- checks, and the first that is met
@@ -128,7 +129,7 @@ offerChecks r s q =
 abbrev pub deliverChecks : Record → (queue out body : List ℕ) → List Check
 deliverChecks r q out body =
     check 2 (brokenRecord r)
-    ∷ check 3 (not (eqb (length q) queueSize) || ltb (length out) outSize || ltb (length body) maxBody)
+    ∷ check 3 (ltb (length out) outSize || ltb (length body) maxBody || not (eqb (length q) queueSize))
     ∷ check 4 (wrongQueue (nodeOf r []) (r .held) q)
     ∷ check 5 (atLimit (nodeOf r []))
     ∷ []

@@ -11,6 +11,7 @@ use Rattle.frame.specs.Frame.{decode, encode}
 use Rattle.holdback.specs.Slots.{laid, queueSize, zeros}
 use Rattle.node.specs.Answers.{AfterDeliver, AfterOffer, AfterSend}
 use Rattle.node.specs.Calls.{deliverCall, offerCall, sendCall}
+use Rattle.node.specs.Sizes.{outSize}
 use Rattle.node.specs.SetUp.{setUp}
 use Rattle.node.specs.declared.Node.{Node as Record}
 use Rattle.node.specs.declared.SendAnswer.{SendAnswer}
@@ -24,7 +25,7 @@ use Rattle.node.specs.declared.DeliverAnswer.the-variants as deliverAnswer
 
 -- lent outputs of the shortest lengths, and an all-zero queue (document 01: shelf)
 abbrev pub out : List ℕ
-out = replicate 2048 0
+out = replicate outSize 0
 
 abbrev pub text : List ℕ
 text = replicate 64 0

@@ -126,12 +126,18 @@ pub T-not-not : (b : Bool) → T b → T (not (not b))
 T-not-not true t = tt
 T-not-not false t = absurd t
 
--- two tests that follow from each other are equal
+-- two tests that follow from each other are equal, and so are two whose denials do
 pub same-test : (a b : Bool) → (T a → T b) → (T b → T a) → a ≡ b
 same-test true true f g = refl
 same-test true false f g = absurd (f tt)
 same-test false true f g = absurd (g tt)
 same-test false false f g = refl
+
+pub same-not : (a b : Bool) → (T (not a) → T (not b)) → (T (not b) → T (not a)) → a ≡ b
+same-not true true f g = refl
+same-not true false f g = absurd (g tt)
+same-not false true f g = absurd (f tt)
+same-not false false f g = refl
 
 -- a test that a function made, its result r, is the test t, and a branch on `!r` was taken, or left
 pub denied : (r t : Bool) → r ≡ t → not r ≡ true → t ≡ false

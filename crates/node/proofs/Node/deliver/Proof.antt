@@ -1,6 +1,6 @@
 -- The refusal, nothing deliverable, or the frame that is taken in, counted and removed. Assumes nothing.
 use Prim.Native.Nat.{_-_, _<_}
-use mathlib.Core.Path.{_∙_, _≡_, sym}
+use mathlib.Core.Path.{_∙_, _≡_, ap, sym}
 use native.Mathlib.Omega.{arith}
 use borrow.Author.Needs.{needs}
 use lib.ListN.{length}
@@ -8,25 +8,33 @@ use Rattle.holdback.proofs.Parts.{HeldPart}
 use Rattle.holdback.specs.Places.{placeOf}
 use Rattle.node.proofs.Delivering.{Ready, deliver-accepted, deliver-leaves, deliver-none, deliver-ready, deliver-refused, found-part, place-held, searched}
 use Rattle.node.proofs.Taking.{from-below}
+use Rattle.node.specs.Checks.{deliverRefusal, shortOutputs}
 use Rattle.node.proofs.Node.deliver.Statement.{statement}
 use Rattle.node.proofs.Node.deliver.Tie as tie
 
+-- the call's start, and its refusal
+abbrev start : tie.After-refusal → tie.Start
+start c = c .before .before .before .before .before .before .before .before .before
+
+told : (c : tie.After-refusal) → c .refusal .result ≡ deliverRefusal (start c .args .t1) (start c .args .queue .now) (shortOutputs (length (start c .args .out .now)) (length (start c .args .body .now)))
+told c = c .refusal .ensures ∙ ap (deliverRefusal (start c .args .t1) (start c .args .queue .now)) (c .before .before .before .before .before .short-outputs .ensures)
+
 -- what holds once no check is met
-passed-checks : (c : tie.Else1) → Ready (c .before .before .before .before .before .before .before .before .before .args .t1) (c .before .before .before .before .before .before .before .before .before .args .queue .now) (length (c .before .before .before .before .before .before .before .before .before .args .out .now)) (length (c .before .before .before .before .before .before .before .before .before .args .body .now))
-passed-checks c = deliver-ready _ _ _ _ (sym (c .before .refusal .ensures) ∙ c .if1 .left)
+passed-checks : (c : tie.Else1) → Ready (start (c .before) .args .t1) (start (c .before) .args .queue .now) (length (start (c .before) .args .out .now)) (length (start (c .before) .args .body .now))
+passed-checks c = deliver-ready _ _ _ _ (sym (told (c .before)) ∙ c .if1 .left)
 
 -- the arrays' lengths
-sized : (c : tie.Else1) → (length (c .before .before .before .before .before .before .before .before .before .args .t1 .m) ≡ 144) × (length (c .before .before .before .before .before .before .before .before .before .args .t1 .deliv) ≡ 12)
+sized : (c : tie.Else1) → (length (start (c .before) .args .t1 .m) ≡ 144) × (length (start (c .before) .args .t1 .deliv) ≡ 12)
 sized c = search needs
 
 -- the place found, its slot, the frame there and its sender
-spot : (c : tie.Else2) → c .before .search .result ≡ placeOf (searched (c .before .before .before .before .before .before .before .before .before .before .before .before .before .before .args .t1) (c .before .before .before .before .before .before .before .before .before .before .before .before .before .before .args .queue .now))
+spot : (c : tie.Else2) → c .before .search .result ≡ placeOf (searched (start (c .before .before .before .before .before .before) .args .t1) (start (c .before .before .before .before .before .before) .args .queue .now))
 spot c = c .before .search .ensures _ _ _ _
 
-within : (c : tie.Else2) → c .before .search .result - 1 < c .before .before .before .before .before .before .before .before .before .before .before .before .before .before .args .t1 .held
-within c = let s = c .before .before .before .before .before .before .before .before .before .before .before .before .before .before in place-held (s .args .t1) (s .args .queue .now) _ (spot c) (c .if2 .left)
+within : (c : tie.Else2) → c .before .search .result - 1 < start (c .before .before .before .before .before .before) .args .t1 .held
+within c = let s = start (c .before .before .before .before .before .before) in place-held (s .args .t1) (s .args .queue .now) _ (spot c) (c .if2 .left)
 
-part : (c : tie.After-frame-end) → HeldPart (c .before .before .before .before .before .before .before .before .before .before .before .before .before .before .before .before .args .queue .now) (c .before .before .before .search .result - 1) (c .frame-end .result)
+part : (c : tie.After-frame-end) → HeldPart (start (c .before .before .before .before .before .before .before .before) .args .queue .now) (c .before .before .before .search .result - 1) (c .frame-end .result)
 part c = found-part (passed-checks (c .before .before .before .before .before .before .before)) _ (spot (c .before .before)) (c .before .before .if2 .left) _ (c .frame-end .ensures)
 
 sender : (c : tie.After-take-in) → c .take-in .result .from < 12
@@ -34,6 +42,9 @@ sender c = let p = part (c .before .before .before .before .before .before) in r
 
 cast-held : tie.Need-cast-held
 cast-held c = search needs
+
+short-outputs-requires : tie.Need-short-outputs-requires
+short-outputs-requires c κs = search needs
 
 refusal-requires : tie.Need-refusal-requires
 refusal-requires c κs = search needs
@@ -43,8 +54,8 @@ same-length c = search needs
 
 returns : tie.Need-returns
 returns c =
-    let s = c .before .before .before .before .before .before .before .before .before in
-    deliver-refused (s .args .t1) (s .args .queue .now) (s .args .out .now) (s .args .body .now) _ (c .before .refusal .ensures) (c .if1 .taken)
+    let s = start (c .before) in
+    deliver-refused (s .args .t1) (s .args .queue .now) (s .args .out .now) (s .args .body .now) _ (told (c .before)) (c .if1 .taken)
 
 search-requires : tie.Need-search-requires
 search-requires c κs = passed-checks (c .before .before .before) .queue
@@ -55,15 +66,15 @@ same-length-2 c = search needs
 returns-2 : tie.Need-returns-2
 returns-2 c =
     let i = c .before .before .before .before .before in
-    let s = i .before .before .before .before .before .before .before .before .before in
+    let s = start (i .before) in
     deliver-none (s .args .t1) (s .args .queue .now) (s .args .out .now) (s .args .body .now) _ (c .before .search .ensures _ _ _ _) (c .if2 .taken)
-    ∙ deliver-accepted (s .args .t1) (s .args .queue .now) (s .args .out .now) (s .args .body .now) (sym (i .before .refusal .ensures) ∙ i .if1 .left)
+    ∙ deliver-accepted (s .args .t1) (s .args .queue .now) (s .args .out .now) (s .args .body .now) (sym (told (i .before)) ∙ i .if1 .left)
 
 sub-at : tie.Need-sub-at
 sub-at c = search needs
 
-mul-start : tie.Need-mul-start
-mul-start c = let k = passed-checks (c .before .before .before .before .before) in record { fits = omega (arith, within c, k .queue .most) }
+mul-a : tie.Need-mul-a
+mul-a c = let k = passed-checks (c .before .before .before .before .before) in record { fits = omega (arith, within c, k .queue .most) }
 
 frame-end-requires : tie.Need-frame-end-requires
 frame-end-requires c κs = let k = passed-checks (c .before .before .before .before .before .before) in omega (arith, within (c .before), k .queue .most, k .queue .size)
@@ -119,15 +130,16 @@ returns-3 c =
     let f = t .before .before .before .before .before .before in
     let e = f .before .before in
     let i = e .before .before .before .before .before in
-    let s = i .before .before .before .before .before .before .before .before .before in
+    let s = start (i .before) in
     deliver-leaves (s .args .t1) (s .args .queue .now) (s .args .out .now) (s .args .body .now) _ (spot e) (e .if2 .left) _ _ _ _ _ _ _ (part f .same) (t .take-in .ensures) (c .before .before .before .before .count-up .ensures) (c .before .before .remove .ensures)
-    ∙ deliver-accepted (s .args .t1) (s .args .queue .now) (s .args .out .now) (s .args .body .now) (sym (i .before .refusal .ensures) ∙ i .if1 .left)
+    ∙ deliver-accepted (s .args .t1) (s .args .queue .now) (s .args .out .now) (s .args .body .now) (sym (told (i .before)) ∙ i .if1 .left)
 
 pub deliver-spec : {M : Type 1} → statement M
 deliver-spec =
     tie.close
     (tie.spec
     cast-held
+    short-outputs-requires
     refusal-requires
     same-length
     returns
@@ -135,7 +147,7 @@ deliver-spec =
     same-length-2
     returns-2
     sub-at
-    mul-start
+    mul-a
     frame-end-requires
     sub-take-in
     part-take-in-start

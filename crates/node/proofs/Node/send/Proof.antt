@@ -9,8 +9,12 @@ use Rattle.node.proofs.Sending.{Sendable, cleared-limit, frame-room, se
 use Rattle.node.proofs.Node.send.Statement.{statement}
 use Rattle.node.proofs.Node.send.Tie as tie
 
+-- the call's start
+abbrev start : tie.After-refusal → tie.Start
+start c = c .before .before .before .before .before .before
+
 -- what holds once no check is met
-passed-checks : (c : tie.Else1) → Sendable (c .before .before .before .before .before .before .before .args .t1) (c .before .before .before .before .before .before .before .args .to) (length (c .before .before .before .before .before .before .before .args .body .now)) (length (c .before .before .before .before .before .before .before .args .out .now))
+passed-checks : (c : tie.Else1) → Sendable (start (c .before) .args .t1) (start (c .before) .args .to) (length (start (c .before) .args .body .now)) (length (start (c .before) .args .out .now))
 passed-checks c = sendable _ _ _ _ (sym (c .before .refusal .ensures) ∙ c .if1 .left)
 
 refusal-requires : tie.Need-refusal-requires
@@ -18,11 +22,11 @@ refusal-requires c κs = search needs
 
 returns : tie.Need-returns
 returns c =
-    let s = c .before .before .before .before .before .before .before in
+    let s = start (c .before) in
     send-refused (s .args .t1) (s .args .to) (s .args .body .now) (s .args .out .now) _ (c .before .refusal .ensures) (c .if1 .taken)
 
-cast-t16 : tie.Need-cast-t16
-cast-t16 c =
+cast-t20 : tie.Need-cast-t20
+cast-t20 c =
     let k = passed-checks c in
     record { fits = omega (arith, k .destination, k .sound .range .atMost12) }
 
@@ -38,7 +42,7 @@ clear-column-requires : tie.Need-clear-column-requires
 clear-column-requires c κs =
     let i = c .before .before .before .before .before .before .before in
     let k = passed-checks i in
-    let s = i .before .before .before .before .before .before .before in
+    let s = start (i .before) in
     let to : s .args .to < 12 = omega (arith, k .destination, k .sound .range .atMost12) in
     (search needs, omega (arith, k .sound .range .below, k .sound .range .atMost12), to, omega (arith, k .below (s .args .to) to))
 
@@ -48,7 +52,7 @@ trim-requires c κs =
     let u = l .before .before .before .before in
     let i = u .before .before .before .before in
     let k = passed-checks i in
-    let s = i .before .before .before .before .before .before .before in
+    let s = start (i .before) in
     let me : s .args .t1 .me < 12 = omega (arith, k .sound .range .below, k .sound .range .atMost12) in
     let to : s .args .to < 12 = omega (arith, k .destination, k .sound .range .atMost12) in (
       ap length (l .clear-column .ensures) ∙ length-flat _,
@@ -57,8 +61,8 @@ trim-requires c κs =
       cleared-limit (s .args .t1) (s .args .to) _ me to (k .sound .limit) (k .below (s .args .to) to) (l .clear-column .ensures),
     )
 
-cast-t18 : tie.Need-cast-t18
-cast-t18 c = search needs
+cast-t29 : tie.Need-cast-t29
+cast-t29 c = search needs
 
 same-length : tie.Need-same-length
 same-length c = search needs
@@ -70,7 +74,7 @@ returns-2 c =
     let u = l .before .before .before .before in
     let i = u .before .before .before .before in
     let k = passed-checks i in
-    let s = i .before .before .before .before .before .before .before in
+    let s = start (i .before) in
     let me : s .args .t1 .me < 12 = omega (arith, k .sound .range .below, k .sound .range .atMost12) in
     let to : s .args .to < 12 = omega (arith, k .destination, k .sound .range .atMost12) in
     send-leaves (s .args .t1) (s .args .to) (s .args .body .now) (s .args .out .now) me to _ _ _ _ _ _ _ (u .user .ensures .1) (u .user .ensures .0) (l .clear-column .ensures) (t .trim .ensures)
@@ -82,11 +86,11 @@ send-spec =
     (tie.spec
     refusal-requires
     returns
-    cast-t16
+    cast-t20
     user-requires
     cast-clear-column
     clear-column-requires
     trim-requires
-    cast-t18
+    cast-t29
     same-length
     returns-2)
