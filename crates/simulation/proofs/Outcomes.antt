@@ -43,9 +43,6 @@ module _ (x : ℕ) (o : Outcome) where
   printed-delivered is i k m e = ap (printedBy x is) e
 
   module _ (s : Small x o) where
-    pub small-refused : (k : ℕ) → o ≡ outcome.Refused k → k < 256
-    small-refused k e = subst (Small x) e s
-
     pub small-held : (k : ℕ) (b : Bool) → o ≡ outcome.Held k b → (x < 1000) × (k < 100)
     small-held k b e = subst (Small x) e s
 

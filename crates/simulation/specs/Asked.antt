@@ -7,15 +7,15 @@ use Rattle.world.specs.Stored.{Begins, joined}
 use Rattle.world.specs.declared.Outcome.{Outcome}
 use Rattle.world.specs.declared.Outcome.the-variants as outcome
 
--- the numbers printed for an outcome have two digits, x and a refusal's number three
+-- the numbers printed for an outcome have at most two digits, x three
 abbrev pub Small : ℕ → Outcome → Type 0
-Small x (outcome.Refused k) = k < 256
+Small x (outcome.Refused k) = Unit {0}
 Small x (outcome.Sent extras) = Unit {0}
 Small x (outcome.Held count ready) = (x < 1000) × (count < 100)
 Small x (outcome.Nothing tried) = (x < 1000) × (tried < 100)
 Small x (outcome.Delivered issue tried extras) = (x < 1000) × (issue < 100) × (tried < 100)
 
--- the numbers that are counted have two digits
+-- the numbers that are counted have at most two digits
 abbrev pub Few : Outcome → Type 0
 Few (outcome.Refused k) = Unit {0}
 Few (outcome.Sent extras) = extras < 100

@@ -16,7 +16,7 @@ ghost use Rattle.simulation.specs.Asked.{Small, Logged};
 /// A refusal.
 pub fn put_refusal(out: &mut [u8], at: usize, why: u8) -> usize
     requires { ⌜ at + 6 ≤ length (now out) ⌝ }
-    ensures { λ r. ⌜ (r ≡ at + length (refusalRow why)) × (now (out .exit) ≡ put (now (out .entry)) at (refusalRow why)) ⌝ }
+    ensures { λ r. ⌜ (r ≤ at + 6) × (r ≡ at + length (refusalRow why)) × (now (out .exit) ≡ put (now (out .entry)) at (refusalRow why)) ⌝ }
 {
     let values = [why as u32];
     text::put_row(out, at, b'R', &values)

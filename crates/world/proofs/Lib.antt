@@ -3,6 +3,7 @@ pub mod Logs
 pub mod Told
 pub mod Reach
 pub mod Keeping
--- pub mod Sends
--- pub mod Offers
--- pub mod Delivers
+pub mod Queues
+pub mod Sends
+pub mod Offers
+pub mod Delivers

@@ -1,14 +1,15 @@
 -- Frames end to end in a log: the frame at a place is found behind those before it. Assumes nothing.
 use Prim.Native.Nat.{ℕ, zero, suc, _+_, _*_, _-_, _≤_, _<_}
-use mathlib.Core.Bool.{Bool, cond, true, false}
+use mathlib.Core.Bool.{Bool, cond, not, true, false}
+use mathlib.Core.Logic.{_⊎_, inl, inr}
 use mathlib.Core.List.{List, [], _∷_, _++_, append-assoc, append-nil}
 use mathlib.Core.Path.{_≡_, refl, sym, ap, _∙_, subst}
 use native.Mathlib.Omega.{arith}
-use lib.Dec.{T, eqb}
+use lib.Dec.{T, eqb, leb, leb→le, nleb→lt}
 use borrow.Author.Tests.{eq-eqb, ne-eqb}
 use lib.ListN.{length, getD, take, drop, length-append, take-append-drop, length-drop}
-use lib.Seq.{take-suc, drop-cons, split-at, take-at, drop-at, length-take-le, take-append-seam, drop-append-seam, take-length, drop-length}
-use Rattle.wire.proofs.Tests.{cond-yes, cond-no, is-true, is-false}
+use lib.Seq.{take-all, take-suc, drop-cons, split-at, take-at, drop-at, length-take-le, take-append-seam, drop-append-seam, take-length, drop-length}
+use Rattle.wire.proofs.Tests.{decide}
 use Rattle.wire.proofs.Trailer.{trailed}
 use Rattle.wire.specs.Limits.{maxFrame}
 use Rattle.frame.proofs.Passed.{passes-kept}
@@ -47,14 +48,25 @@ joined-suc f i h =
     let e : i + 1 ≡ suc i = omega arith in
     ap (λ (k : ℕ). joined (take k f)) e ∙ ap joined (take-suc f i [] h) ∙ joined-append (take i f) (getD f i [] ∷ []) ∙ ap (λ (x : List ℕ). joined (take i f) ++ x) (append-nil (getD f i []))
 
+-- the frames lie inside the log
+pub begins-inside : (f : List (List ℕ)) (l : List ℕ) → Begins f l → length (joined f) ≤ length l
+begins-inside f l b = go (decide (leb (length (joined f)) (length l)))
+  where
+    go : T (leb (length (joined f)) (length l)) ⊎ T (not (leb (length (joined f)) (length l))) → length (joined f) ≤ length l
+    go (inl t) = leb→le (length (joined f)) (length l) t
+    go (inr t) =
+        let h : length l < length (joined f) = nleb→lt (length (joined f)) (length l) t in
+        omega (arith, ap length (sym (take-all (length (joined f)) l (omega arith)) ∙ b .bytes))
+
 -- the bytes around the frame at place i
 around : (f : List (List ℕ)) (l : List ℕ) (i : ℕ) → Begins f l → i < length f → (r : List ℕ) × (l ≡ joined (take i f) ++ (getD f i [] ++ r))
-around f l i b h =
-    (joined (drop (suc i) f) ++ drop (length (joined f)) l,
-    sym (take-append-drop (length (joined f)) l)
-    ∙ ap (λ (x : List ℕ). x ++ drop (length (joined f)) l) (b .bytes ∙ ap joined (split-at f i [] h) ∙ joined-append (take i f) (getD f i [] ∷ drop (suc i) f) ∙ ap (λ (x : List ℕ). joined (take i f) ++ x) (joined-one (getD f i []) (drop (suc i) f)))
-    ∙ append-assoc (joined (take i f)) (getD f i [] ++ joined (drop (suc i) f)) (drop (length (joined f)) l)
-    ∙ ap (λ (x : List ℕ). joined (take i f) ++ x) (append-assoc (getD f i []) (joined (drop (suc i) f)) (drop (length (joined f)) l)))
+around f l i b h = (
+  joined (drop (suc i) f) ++ drop (length (joined f)) l,
+  sym (take-append-drop (length (joined f)) l)
+      ∙ ap (λ (x : List ℕ). x ++ drop (length (joined f)) l) (b .bytes ∙ ap joined (split-at f i [] h) ∙ joined-append (take i f) (getD f i [] ∷ drop (suc i) f) ∙ ap (λ (x : List ℕ). joined (take i f) ++ x) (joined-one (getD f i []) (drop (suc i) f)))
+      ∙ append-assoc (joined (take i f)) (getD f i [] ++ joined (drop (suc i) f)) (drop (length (joined f)) l)
+      ∙ ap (λ (x : List ℕ). joined (take i f) ++ x) (append-assoc (getD f i []) (joined (drop (suc i) f)) (drop (length (joined f)) l)),
+)
 
 -- what stands at `at`, behind the first i frames: the frame at place i, which ends at `end`
 pub record LogPart (f : List (List ℕ)) (l : List ℕ) (i at end : ℕ) : Type 0 where

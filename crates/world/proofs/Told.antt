@@ -23,13 +23,14 @@ use Rattle.protocol.specs.Node.{Node}
 use Rattle.protocol.specs.Offer.{holding}
 use Rattle.protocol.specs.Send.{sending}
 use Rattle.protocol.specs.Trim.{trimFor}
-use Rattle.trim.proofs.Bounds.{trim-few, trim-1008}
+use Rattle.protocol.proofs.Trim.{trim-few}
+use Rattle.trim.proofs.Bounds.{trim-1008}
 use Rattle.node.proofs.Sending.{Sendable, sendable, frame-room, send-refused, send-accepted}
 use Rattle.node.proofs.Offering.{offer-refused, offer-accepted}
 use Rattle.node.proofs.Delivering.{concluded, deliver-refused, deliver-accepted, searched}
 use Rattle.node.specs.Answers.{AfterSend, AfterOffer, AfterDeliver}
 use Rattle.node.specs.Calls.{wasReady, sendCall, offerCall, deliverCall, acceptSend, acceptOffer, acceptDeliver, refuseSend, refuseOffer, refuseDeliver}
-use Rattle.node.specs.Checks.{sendRefusal, offerRefusal, deliverRefusal, nodeAt}
+use Rattle.node.specs.Checks.{sendRefusal, offerRefusal, deliverRefusal, nodeAt, shortOutputs}
 use Rattle.node.specs.Record.{nodeOf}
 use Rattle.node.specs.declared.Node.{Node as Record}
 use Rattle.node.specs.declared.Delivered.{Delivered}
@@ -58,6 +59,11 @@ cut-joined (suc k) (b ∷ s) h =
 
 pub frames-joined : (s : List ℕ) → joined (framesIn s) ≡ s
 frames-joined s = cut-joined (length s) s (omega arith)
+
+-- no bytes, no frames
+pub no-frames : length (framesIn []) ≡ 0
+unfolding cutFor
+no-frames = refl
 
 -- ---- send
 
@@ -94,7 +100,7 @@ module _ (r : Record) (to : ℕ) (out : List ℕ) (bytes extras : ℕ) (e : send
       let s = sendable r to 0 (length out) z in
       let o : put out 0 (framesOf l) ≡ c .out = ap (λ (x : AfterSend). x .out) a in
       let f : framesIn (take bytes (c .out)) ≡ map encode l =
-          ap (λ (v : List ℕ). framesIn (take bytes v)) (sym o) ∙ ap (λ (k : ℕ). framesIn (take k (put out 0 (framesOf l)))) (sym b) ∙ issued-frames out l (omega (arith, s .long, send-room z)) in
+      ap (λ (v : List ℕ). framesIn (take bytes v)) (sym o) ∙ ap (λ (k : ℕ). framesIn (take k (put out 0 (framesOf l)))) (sym b) ∙ issued-frames out l (omega (arith, s .long, send-room z)) in
       record {
         frames = omega (arith, ap (λ (x : List (List ℕ)). length x) f, length-map l encode);
         few = omega (arith, trim-few 12 (r .me) (r .n) (r .cap) (clear (r .me) to m));
@@ -177,8 +183,8 @@ module _ (r : Record) (q out body : List ℕ) where
 
   pub deliver-told : 2048 ≤ length out → DeliverTold r q (deliverCall r q out body .result .answer) (deliverCall r q out body)
   unfolding told
-  deliver-told h = go (ℕ-discrete (deliverRefusal r q (length out) (length body)) 0)
+  deliver-told h = go (ℕ-discrete (deliverRefusal r q (shortOutputs (length out) (length body))) 0)
     where
-      go : Dec (deliverRefusal r q (length out) (length body) ≡ 0) → told (deliverCall r q out body)
+      go : Dec (deliverRefusal r q (shortOutputs (length out) (length body)) ≡ 0) → told (deliverCall r q out body)
       go (yes z) = subst told (deliver-accepted r q out body z) (found-told (nodeAt r q) (searched r q) h)
-      go (no n) = subst told (deliver-refused r q out body (deliverRefusal r q (length out) (length body)) refl n) refl
+      go (no n) = subst told (deliver-refused r q out body (deliverRefusal r q (shortOutputs (length out) (length body))) refl n) refl

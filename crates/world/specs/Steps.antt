@@ -14,7 +14,8 @@ use Rattle.node.specs.declared.SendAnswer.the-variants as sendAnswer
 use Rattle.node.specs.declared.OfferAnswer.the-variants as offerAnswer
 use Rattle.node.specs.declared.DeliverAnswer.the-variants as deliverAnswer
 use Rattle.node.specs.Answers.{AfterSend, AfterOffer, AfterDeliver}
-use Rattle.node.specs.Calls.{outSize, sendCall, offerCall, deliverCall}
+use Rattle.node.specs.Sizes.{outSize}
+use Rattle.node.specs.Calls.{sendCall, offerCall, deliverCall}
 use Rattle.causality.specs.Demand3.{World, Issue, Label, sends, offers, delivers, sendAt, offerAt, deliverAt, label, destination}
 use Rattle.world.specs.declared.Outcome.{Outcome}
 use Rattle.world.specs.declared.Outcome.the-variants as outcome

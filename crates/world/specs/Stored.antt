@@ -13,7 +13,7 @@ use Rattle.node.specs.declared.Node.{Node as Record}
 use Rattle.node.specs.declared.SetUpAnswer.{SetUpAnswer}
 use Rattle.node.specs.declared.SetUpAnswer.the-variants.{Refused, Ready}
 use Rattle.node.specs.SetUp.{setUp}
-use Rattle.node.specs.Calls.{outSize}
+use Rattle.node.specs.Sizes.{outSize}
 use Rattle.causality.specs.Demand3.{World, Step, BodiesOfBytes, start, run}
 use Rattle.world.specs.declared.World.{World as Stored}
 use Rattle.world.specs.Steps.{frames}

@@ -1,7 +1,11 @@
 //! The world of a simulation: the records of up to four nodes by value, their hold-back queues (document 01: shelves) and the issued frames in lent slices, and the steps on them. Nothing here prints.
+pub mod deliver;
 pub mod log;
+pub mod offer;
+pub mod send;
 pub mod start;
 mod store;
+
 use node::Node;
 
 /// Nodes of a simulation at most.
@@ -19,9 +23,16 @@ pub struct World {
 pub enum Outcome {
     Refused(u8),
     Sent(usize),
-    Held { count: usize, ready: bool },
+    Held {
+        count: usize,
+        ready: bool,
+    },
     Nothing(usize),
-    Delivered { issue: usize, tried: usize, extras: usize },
+    Delivered {
+        issue: usize,
+        tried: usize,
+        extras: usize,
+    },
 }
 
 /// A step's outcome and the world.

@@ -1,8 +1,8 @@
 -- By the outcome, one line, or the lines of the frames issued. Assumes nothing.
 use mathlib.Core.Path.{_≡_}
 use native.Mathlib.Omega.{arith}
-use Rattle.simulation.proofs.Outcomes.{shown, shown-both, printed-refused, printed-sent, printed-held, printed-nothing, printed-delivered, small-refused, small-held, small-nothing, small-delivered}
-use Rattle.simulation.proofs.Rows.{one-number, two-numbers, three-numbers}
+use Rattle.simulation.proofs.Outcomes.{shown, shown-both, printed-refused, printed-sent, printed-held, printed-nothing, printed-delivered, small-held, small-nothing, small-delivered}
+use Rattle.simulation.proofs.Rows.{two-numbers, three-numbers}
 use borrow.Author.Needs.{needs}
 use Rattle.simulation.proofs.print.put_outcome.Statement.{statement}
 use Rattle.simulation.proofs.print.put_outcome.Tie as tie
@@ -65,8 +65,7 @@ returns c =
     let w = c .before .before .before .before .before in
     let a = w .before .before .before .before in
     let r = c .before .before .put-refusal .ensures in
-    let q = small-refused _ _ (a .pre .0) _ (w .o .given .1) in
-    (omega (arith, r .0, one-number 82 (w .o .given .0 .0) (omega arith)), λ f b m e. shown _ _ _ _ _ _ (printed-refused _ _ _ _ (w .o .given .1)) (r .0) (r .1))
+    (omega (arith, r .0), λ f b m e. shown _ _ _ _ _ _ (printed-refused _ _ _ _ (w .o .given .1)) (r .1) (r .2))
 
 same-length-2 : tie.Need-same-length-2
 same-length-2 c = search needs

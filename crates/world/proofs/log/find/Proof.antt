@@ -41,7 +41,7 @@ part-of c f b h =
 -- the test of the frame at place i
 tested : (c : tie.After-is-named Inv-loop μ-loop) (f : List (List ℕ)) → Begins f (c .before .before .before .before .before .before .args .log .now) → c .before .before .before .before .before .before .args .count ≤ length f
     → c .is-named .result ≡ named (label (c .before .before .before .before .before .before .args .kind) (c .before .before .before .before .before .before .args .from) (c .before .before .before .before .before .before .args .number))
-        (c .before .before .before .before .before .before .args .to) (getD f (c .before .before .before .before .loop .i) [])
+    (c .before .before .before .before .before .before .args .to) (getD f (c .before .before .before .before .loop .i) [])
 tested c f b h = c .is-named .ensures ∙ ap (named _ _) (part-of (c .before .before) f b h .same)
 
 loop-holds : tie.Need-loop-holds Inv-loop μ-loop
@@ -81,10 +81,11 @@ loop-less c = search needs
 
 loop-again : tie.Need-loop-again Inv-loop μ-loop
 loop-again c =
-    let w = c .before .before .before .before .before in
-    (search needs,
-    λ f b h. part-of (c .before .before .before) f b h .next,
-    λ f b h. w .loop .inv .2 f b h ∙ issue-next _ _ (w .loop .i) f (omega arith) (sym (tested (c .before) f b (omega arith)) ∙ c .if1 .left))
+    let w = c .before .before .before .before .before in (
+      search needs,
+      λ f b h. part-of (c .before .before .before) f b h .next,
+      λ f b h. w .loop .inv .2 f b h ∙ issue-next _ _ (w .loop .i) f (omega arith) (sym (tested (c .before) f b (omega arith)) ∙ c .if1 .left),
+    )
 
 returns-2 : tie.Need-returns-2 Inv-loop μ-loop
 returns-2 c = λ f b h. let w = c .before in sym (w .loop .inv .2 f b h ∙ issue-none _ _ (w .loop .i) _ f (omega arith) (omega arith))
