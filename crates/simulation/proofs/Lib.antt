@@ -1,5 +1,7 @@
 -- Laws of `simulation`, and document 01's example.
 pub mod Rows
 pub mod Outcomes
+pub mod Parsed
 pub mod Facts
+pub mod Concluding
 pub mod Example

@@ -9,16 +9,21 @@ use lib.ListN.{length, getD, take, drop, length-append, length-drop}
 use lib.Seq.{drop-cons, drop-length, take-all}
 use Rattle.wire.specs.Bytes.{put}
 use Rattle.wire.proofs.Bytes.{length-put, put-append}
-use Rattle.text.specs.Print.{row}
+use Rattle.text.specs.Print.{decimal, digits, row, spaced}
 use Rattle.text.proofs.Print.{decimal-few, length-row-nil, length-row-cons}
 use Rattle.frame.specs.Header.{header}
 use Rattle.frame.specs.declared.header.Header.{Header}
 use Rattle.world.specs.Stored.{Begins, joined}
-use Rattle.simulation.specs.Yard.{headerRow, issueRows}
+use Rattle.simulation.specs.Yard.{headerRow, issueRows, refusalRow}
 
 -- numbers of two or three digits behind a letter
 pub one-number : (l a : ℕ) → a < 1000 → length (row l (a ∷ [])) ≤ 6
 one-number l a h = omega (arith, length-row-cons l a [], length-row-nil l, decimal-few 3 a (omega arith) h)
+
+-- `R 17` and its line feed
+pub refusal-17 : length (refusalRow 17) ≡ 5
+unfolding row spaced decimal digits
+refusal-17 = refl
 
 pub two-numbers : (l a b : ℕ) → a < 1000 → b < 100 → length (row l (a ∷ b ∷ [])) ≤ 9
 two-numbers l a b h i = omega (arith, length-row-cons l a (b ∷ []), length-row-cons l b [], length-row-nil l, decimal-few 3 a (omega arith) h, decimal-few 2 b (omega arith) i)

@@ -2,3 +2,4 @@
 pub mod Yard
 pub mod Run
 pub mod Asked
+pub mod Stands
