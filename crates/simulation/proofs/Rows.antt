@@ -32,6 +32,12 @@ pub three-numbers : (l a b c : ℕ) → a < 1000 → b < 100 → c < 100 → len
 three-numbers l a b c h i j =
     omega (arith, length-row-cons l a (b ∷ c ∷ []), two-numbers l b c (omega arith) j, length-row-cons l b (c ∷ []), length-row-cons l c [], length-row-nil l, decimal-few 3 a (omega arith) h, decimal-few 2 b (omega arith) i, decimal-few 2 c (omega arith) j)
 
+-- five numbers of 32 bits
+pub total-most : (l a b c d e : ℕ) → a < 4294967296 → b < 4294967296 → c < 4294967296 → d < 4294967296 → e < 4294967296 → length (row l (a ∷ b ∷ c ∷ d ∷ e ∷ [])) ≤ 57
+total-most l a b c d e ha hb hc hd he =
+    omega (arith, length-row-cons l a (b ∷ c ∷ d ∷ e ∷ []), length-row-cons l b (c ∷ d ∷ e ∷ []), length-row-cons l c (d ∷ e ∷ []), length-row-cons l d (e ∷ []), length-row-cons l e [], length-row-nil l,
+    decimal-few 10 a (omega arith) (omega arith), decimal-few 10 b (omega arith) (omega arith), decimal-few 10 c (omega arith) (omega arith), decimal-few 10 d (omega arith) (omega arith), decimal-few 10 e (omega arith) (omega arith))
+
 -- the line of an issued frame: an issue below 100, and bytes
 pub issue-numbers : (l m a b e : ℕ) → m < 100 → a < 256 → b < 256 → e < 256 → length (row l (m ∷ a ∷ b ∷ e ∷ [])) ≤ 17
 issue-numbers l m a b e h i j k =

@@ -1,8 +1,9 @@
 //! What a step prints. Each function writes from `at` on, and gives the place after it.
+use counters::Counters;
 use frame::header::Header;
 use world::Outcome;
 ghost use mathlib.Core.Path.{_≡_};
-ghost use mathlib.Core.List.{List, [], _∷_};
+ghost use mathlib.Core.List.{List, [], _∷_, _++_};
 ghost use Prim.Native.Nat.{ℕ, _+_, _-_, _*_, _≤_, _<_};
 ghost use mathlib.Core.Bool.{cond};
 ghost use lib.Dec.{eqb};
@@ -10,7 +11,7 @@ ghost use lib.ListN.{length, take, drop};
 ghost use Rattle.wire.specs.Bytes.{put};
 ghost use Rattle.text.specs.Print.{row};
 ghost use Rattle.world.specs.Stored.{Begins, joined};
-ghost use Rattle.simulation.specs.Yard.{refusalRow, headerRow, issueRows, printedBy};
+ghost use Rattle.simulation.specs.Yard.{refusalRow, headerRow, issueRows, printedBy, totalRow};
 ghost use Rattle.simulation.specs.Asked.{Small, Logged};
 
 /// A refusal.
@@ -109,4 +110,25 @@ pub fn put_outcome(
             put_issues(out, end, log, place, from, to)
         }
     }
+}
+
+/// The counters.
+pub fn put_total(out: &mut [u8], at: usize, t: Counters) -> usize
+    requires { ⌜ at + 57 ≤ length (now out) ⌝ }
+    ensures { λ r. ⌜ (r ≡ at + length (totalRow t)) × (now (out .exit) ≡ put (now (out .entry)) at (totalRow t)) ⌝ }
+{
+    let values = [t.user, t.extras, t.delivered, t.delays, t.share];
+    text::put_row(out, at, b'T', &values)
+}
+
+/// The end of the output: a refusal where bytes stand behind the last line feed, and the counters.
+pub fn put_ending(out: &mut [u8], at: usize, rest: bool, t: Counters) -> usize
+    requires { ⌜ at + 63 ≤ length (now out) ⌝ }
+    ensures { λ r. ⌜ (r ≡ at + length (cond rest (refusalRow 17) [] ++ totalRow t)) × (now (out .exit) ≡ put (now (out .entry)) at (cond rest (refusalRow 17) [] ++ totalRow t)) ⌝ }
+{
+    if rest {
+        let end = put_refusal(out, at, 17);
+        return put_total(out, end, t);
+    }
+    put_total(out, at, t)
 }
