@@ -17,6 +17,10 @@ use Rattle.simulation.specs.Yard.{refusalRow, printedBy}
 pub shown : (p q : List ℕ) (at r : ℕ) (o o′ : List ℕ) → p ≡ q → r ≡ at + length q → o′ ≡ put o at q → (r ≡ at + length p) × (o′ ≡ put o at p)
 shown p q at r o o′ e l b = (l ∙ ap (λ (x : List ℕ). at + length x) (sym e), b ∙ ap (put o at) (sym e))
 
+-- the same from the output's front on
+pub shown-first : (p q : List ℕ) (r : ℕ) (o o′ : List ℕ) → p ≡ q → r ≡ length q → o′ ≡ put o 0 q → (r ≡ length p) × (o′ ≡ put o 0 p)
+shown-first p q r o o′ e l b = (l ∙ ap length (sym e), b ∙ ap (put o 0) (sym e))
+
 -- one line behind the other
 pub shown-both : (p q : List ℕ) (at r s : ℕ) (o o′ o″ : List ℕ) → r ≡ at + length p → o′ ≡ put o at p → s ≡ r + length q → o″ ≡ put o′ r q → (s ≡ at + length (p ++ q)) × (o″ ≡ put o at (p ++ q))
 shown-both p q at r s o o′ o″ l b m d = (omega (arith, length-append p q), rw (d, b, l) (sym (put-append o at p q)))
