@@ -134,6 +134,7 @@ offer-facts w (suc p) h = to (getElem? (w .log) p)
     go g (offerAnswer.Held count ready) e =
         let j : ℕ = destination (g .frame) in
         record { few = tt; small = (h, held-few (w .records j) (g .frame) (w .queues j) count ready e); grown = (_, refl) }
+
     to : (o : Option Issue) → StepFacts (suc p) w (offerTo w p o)
     to none = refused-facts (suc p) 17 w
     to (some g) = go g (offerCall (w .records (destination (g .frame))) (g .frame) (w .queues (destination (g .frame))) .result .answer) refl

@@ -35,14 +35,36 @@ three-numbers l a b c h i j =
 -- five numbers of 32 bits
 pub total-most : (l a b c d e : ℕ) → a < 4294967296 → b < 4294967296 → c < 4294967296 → d < 4294967296 → e < 4294967296 → length (row l (a ∷ b ∷ c ∷ d ∷ e ∷ [])) ≤ 57
 total-most l a b c d e ha hb hc hd he =
-    omega (arith, length-row-cons l a (b ∷ c ∷ d ∷ e ∷ []), length-row-cons l b (c ∷ d ∷ e ∷ []), length-row-cons l c (d ∷ e ∷ []), length-row-cons l d (e ∷ []), length-row-cons l e [], length-row-nil l,
-    decimal-few 10 a (omega arith) (omega arith), decimal-few 10 b (omega arith) (omega arith), decimal-few 10 c (omega arith) (omega arith), decimal-few 10 d (omega arith) (omega arith), decimal-few 10 e (omega arith) (omega arith))
+    omega (
+      arith,
+      length-row-cons l a (b ∷ c ∷ d ∷ e ∷ []),
+      length-row-cons l b (c ∷ d ∷ e ∷ []),
+      length-row-cons l c (d ∷ e ∷ []),
+      length-row-cons l d (e ∷ []),
+      length-row-cons l e [],
+      length-row-nil l,
+      decimal-few 10 a (omega arith) (omega arith),
+      decimal-few 10 b (omega arith) (omega arith),
+      decimal-few 10 c (omega arith) (omega arith),
+      decimal-few 10 d (omega arith) (omega arith),
+      decimal-few 10 e (omega arith) (omega arith),
+    )
 
 -- the line of an issued frame: an issue below 100, and bytes
 pub issue-numbers : (l m a b e : ℕ) → m < 100 → a < 256 → b < 256 → e < 256 → length (row l (m ∷ a ∷ b ∷ e ∷ [])) ≤ 17
 issue-numbers l m a b e h i j k =
-    omega (arith, length-row-cons l m (a ∷ b ∷ e ∷ []), length-row-cons l a (b ∷ e ∷ []), length-row-cons l b (e ∷ []), length-row-cons l e [], length-row-nil l,
-    decimal-few 2 m (omega arith) h, decimal-few 3 a (omega arith) (omega arith), decimal-few 3 b (omega arith) (omega arith), decimal-few 3 e (omega arith) (omega arith))
+    omega (
+      arith,
+      length-row-cons l m (a ∷ b ∷ e ∷ []),
+      length-row-cons l a (b ∷ e ∷ []),
+      length-row-cons l b (e ∷ []),
+      length-row-cons l e [],
+      length-row-nil l,
+      decimal-few 2 m (omega arith) h,
+      decimal-few 3 a (omega arith) (omega arith),
+      decimal-few 3 b (omega arith) (omega arith),
+      decimal-few 3 e (omega arith) (omega arith),
+    )
 
 header-row : (m : ℕ) (h : Header) → headerRow m h ≡ row (cond (eqb (h .kind) 1) 83 88) (m ∷ h .from ∷ h .to ∷ h .e ∷ [])
 unfolding headerRow

@@ -9,11 +9,7 @@ ghost use Rattle.simulation.specs.Asked.{Few};
 fn waits(ready: bool) -> u32
     ensures { λ r. ⌜ r ≡ waits ready ⌝ }
 {
-    if ready {
-        0
-    } else {
-        1
-    }
+    if ready { 0 } else { 1 }
 }
 
 /// The counters after a step of that outcome.
@@ -26,6 +22,10 @@ pub fn counted(t: Counters, o: Outcome) -> Counters
         Outcome::Sent(extras) => counters::after_send(t, extras as u32),
         Outcome::Held { count, ready } => counters::after_offer(t, waits(ready)),
         Outcome::Nothing(tried) => counters::after_nothing(t, tried as u32),
-        Outcome::Delivered { issue, tried, extras } => counters::after_delivery(t, extras as u32),
+        Outcome::Delivered {
+            issue,
+            tried,
+            extras,
+        } => counters::after_delivery(t, extras as u32),
     }
 }

@@ -2,6 +2,7 @@
 pub mod count;
 pub mod line;
 pub mod print;
+
 use commands::FirstLine;
 use counters::Counters;
 use node::Node;
@@ -28,6 +29,11 @@ pub const MAX_INPUT: usize = 4096;
 /// Bytes of output that always suffice.
 pub const OUTPUT_SIZE: usize = 24_576;
 
+// The queues of a yard end to end, and the frames that it may issue with what one call may write behind them.
+const QUEUES_SIZE: usize = Node::QUEUE_SIZE * world::MAX_SIMULATED;
+
+const LOG_SIZE: usize = Node::MAX_FRAME * MAX_ISSUES + Node::OUT_SIZE;
+
 /// A yard: the world of its list of steps, and the counters (document 01: the tally).
 pub struct Yard {
     pub world: World,
@@ -47,7 +53,14 @@ pub enum Ran {
 }
 
 // The lines behind the first, which begin at `start`: those that end with a line feed, and what stands behind the last one. Gives how many bytes are printed.
-fn run_lines(w: World, input: &[u8], start: usize, queues: &mut [u8], log: &mut [u8], out: &mut [u8]) -> usize
+fn run_lines(
+    w: World,
+    input: &[u8],
+    start: usize,
+    queues: &mut [u8],
+    log: &mut [u8],
+    out: &mut [u8],
+) -> usize
     requires { ⌜ Opened w (now queues) (now log) × (start ≤ length (now input)) × (length (now input) ≤ maxInput) × (outputSize ≤ length (now out)) ⌝ }
     ensures { λ r. ⌜ ((n cap : ℕ) → Holds n cap maxIssues 0 (before n cap) w (now (queues .entry)) (now (log .entry)) → (r ≡ length (lines n (opened n cap) (split 10 (drop start (now (input .entry)))))) × (now (out .exit) ≡ put (now (out .entry)) 0 (lines n (opened n cap) (split 10 (drop start (now (input .entry))))))) ⌝ }
 {
@@ -76,8 +89,8 @@ fn run_sizes(n: usize, cap: usize, input: &[u8], at: usize, out: &mut [u8]) -> u
     if !world::start::startable(n, caps) {
         return print::put_refusal(out, 0, 17);
     }
-    let mut queues = [0u8; 51_328];
-    let mut log = [0u8; 53_376];
+    let mut queues = [0u8; QUEUES_SIZE];
+    let mut log = [0u8; LOG_SIZE];
     let w = world::start::fresh(n, caps);
     run_lines(w, input, at, &mut queues, &mut log, out)
 }

@@ -30,7 +30,7 @@ same-length-2 : tie.Need-same-length-2
 same-length-2 c = search needs
 
 returns-3 : tie.Need-returns-3
-returns-3 c = 
+returns-3 c =
     let w = c .before .before .before .before .before in
     let r = c .before .before .put-refusal2 .ensures in
     run-written _ _ (omega arith) _ (output-none _ (omega arith) _ (w .find .ensures .0) (c .before .before .before .before .if3 .taken)) _ _ (r .1 ∙ zero-add _) (r .2)
@@ -60,7 +60,7 @@ same-length-3 : tie.Need-same-length-3
 same-length-3 c = search needs
 
 returns-4 : tie.Need-returns-4
-returns-4 c = 
+returns-4 c =
     let w = c .before .before .before .before .before .before .before .before .before .before in
     let r = c .before .before .run-sizes .ensures in
     let e = sym (c .before .before .before .before .before .before .before .parse-first-line .ensures) ∙ c .before .before .before .before .before .first .given .1 in
@@ -70,7 +70,7 @@ same-length-4 : tie.Need-same-length-4
 same-length-4 c = search needs
 
 returns-5 : tie.Need-returns-5
-returns-5 c = 
+returns-5 c =
     let w = c .before .before .before .before .before .before .before .before .before in
     let r = c .before .before .put-refusal3 .ensures in
     let e = sym (c .before .before .before .before .before .before .parse-first-line .ensures) ∙ c .before .before .before .before .enum-told .given .1 in

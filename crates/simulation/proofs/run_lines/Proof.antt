@@ -65,12 +65,18 @@ loop-again : tie.Need-loop-again Inv-loop μ-loop
 loop-again c =
     let w = c .before .before .before .before .before .before .before .before .before .before .before .before .before .before in
     let t = c .before .before .before .before .before .before .before .before .take in
-    let long : length (take (w .loop .end - w .loop .at) (drop (w .loop .at) (w .before .before .before .before .before .before .before .args .input .now))) ≡ w .loop .end - w .loop .at = length-take-le _ _ (omega (arith, length-drop (w .loop .at) (w .before .before .before .before .before .before .before .args .input .now), w .loop .inv .2)) in
-    (omega arith, c .find2 .ensures .0, c .find2 .ensures .1, t .kept .1 .1 .0 ∙ w .loop .inv .3, t .kept .1 .1 .1 .0 ∙ w .loop .inv .4, t .kept .1 .1 .1 .1 .0 ∙ w .loop .inv .5,
-    omega (arith, t .ensures .0, long, w .loop .inv .1, w .loop .inv .6),
-    λ n cap h.
-        let r = w .loop .inv .7 n cap h in
-        running-goes n cap _ _ _ _ _ _ _ _ _ _ r (w .loop .inv .1) (omega arith) _ _ _ _ (t .ensures .1 n cap (r .steps) (r .yard) (omega (arith, r .few, w .loop .inv .0, w .before .before .before .before .before .before .before .pre .2)) (r .stands)))
+    let long : length (take (w .loop .end - w .loop .at) (drop (w .loop .at) (w .before .before .before .before .before .before .before .args .input .now))) ≡ w .loop .end - w .loop .at = length-take-le _ _ (omega (arith, length-drop (w .loop .at) (w .before .before .before .before .before .before .before .args .input .now), w .loop .inv .2)) in (
+      omega arith,
+      c .find2 .ensures .0,
+      c .find2 .ensures .1,
+      t .kept .1 .1 .0 ∙ w .loop .inv .3,
+      t .kept .1 .1 .1 .0 ∙ w .loop .inv .4,
+      t .kept .1 .1 .1 .1 .0 ∙ w .loop .inv .5,
+      omega (arith, t .ensures .0, long, w .loop .inv .1, w .loop .inv .6),
+      λ n cap h.
+          let r = w .loop .inv .7 n cap h in
+          running-goes n cap _ _ _ _ _ _ _ _ _ _ r (w .loop .inv .1) (omega arith) _ _ _ _ (t .ensures .1 n cap (r .steps) (r .yard) (omega (arith, r .few, w .loop .inv .0, w .before .before .before .before .before .before .before .pre .2)) (r .stands)),
+    )
 
 put-ending-requires : tie.Need-put-ending-requires Inv-loop μ-loop
 put-ending-requires c κs =

@@ -19,7 +19,7 @@ same-length : tie.Need-same-length
 same-length c = search needs
 
 returns : tie.Need-returns
-returns c = 
+returns c =
     let r = c .before .before .put-refusal .ensures in
     let e = started-no _ _ _ (denied _ _ (c .before .before .before .before .before .startable .ensures) (c .before .before .before .before .if1 .taken)) in
     shown-first _ _ _ _ _ e (r .1 ∙ zero-add _) (r .2)
@@ -35,7 +35,7 @@ slice-aggregate-run-lines-2 c = search needs
 
 run-lines-requires : tie.Need-run-lines-requires
 unfolding logSize
-run-lines-requires c κs = 
+run-lines-requires c κs =
     let p = c .before .before .before .before .before .before .before .before .pre in
     (record { n = _; cap = _; holds = stored-start _ _ (passed _ _ (c .before .before .before .before .before .startable .ensures) (c .before .before .before .before .if1 .left)) _ (c .before .before .before .fresh .ensures) 51328 53376 refl refl }, p .0, p .1, p .2)
 
@@ -44,7 +44,7 @@ same-length-2 c = search needs
 
 returns-2 : tie.Need-returns-2
 unfolding logSize
-returns-2 c = 
+returns-2 c =
     let s = passed _ _ (c .before .before .before .before .before .before .before .before .before .before .startable .ensures) (c .before .before .before .before .before .before .before .before .before .if1 .left) in
     let r = c .before .before .before .before .run-lines .ensures _ _ (stored-start _ _ s _ (c .before .before .before .before .before .before .before .before .fresh .ensures) 51328 53376 refl refl) in
     shown-first _ _ _ _ _ (started-yes _ _ _ s) (r .0) (r .1)

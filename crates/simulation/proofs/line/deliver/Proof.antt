@@ -37,9 +37,10 @@ returns c =
     let p = a .pre in
     let d = p .1 in
     let t = s .deliver .ensures (d .n) (d .cap) (d .k) (d .world) (d .more) (d .holds) in
-    let r = c .before .before .conclude .ensures in
-    (bounded _ _ _ _ _ _ _ (d .holds) _ _ (deliver-facts (d .n) maxIssues (d .world) (a .args .j) (omega (arith, d .holds .below)) (p .0)) _ _ _ t (c .before .before .conclude .result) _ (r .0) (r .2),
-    λ n cap k z short st. took-step n cap k z _ _ _ _ (st .world) (st .counters) _ _ (deliver-facts n maxIssues (z .world) (a .args .j) (omega (arith, st .world .below)) (p .0)) _ _ _ (s .deliver .ensures n cap k (z .world) short (st .world)) _ _ _ _ (r .0) (r .1) (r .3))
+    let r = c .before .before .conclude .ensures in (
+      bounded _ _ _ _ _ _ _ (d .holds) _ _ (deliver-facts (d .n) maxIssues (d .world) (a .args .j) (omega (arith, d .holds .below)) (p .0)) _ _ _ t (c .before .before .conclude .result) _ (r .0) (r .2),
+      λ n cap k z short st. took-step n cap k z _ _ _ _ (st .world) (st .counters) _ _ (deliver-facts n maxIssues (z .world) (a .args .j) (omega (arith, st .world .below)) (p .0)) _ _ _ (s .deliver .ensures n cap k (z .world) short (st .world)) _ _ _ _ (r .0) (r .1) (r .3),
+    )
 
 pub deliver-spec : {M : Type 1} → statement M
 deliver-spec = tie.close (tie.spec deliver-requires conclude-requires same-length same-length-2 same-length-3 returns)

@@ -34,9 +34,10 @@ returns c =
     let p = a .pre in
     let d = p .0 .1 in
     let t = s .send .ensures (d .n) (d .cap) (d .k) (d .world) (p .0 .0) (d .more) (d .holds) in
-    let r = c .before .before .conclude .ensures in
-    (bounded _ _ _ _ _ _ _ (d .holds) _ _ (send-facts (a .args .i) (d .n) maxIssues (d .world) (a .args .i) (a .args .j)) _ _ _ t (c .before .before .conclude .result) _ (r .0) (r .2),
-    λ n cap k z q short st. took-step n cap k z _ _ q _ (st .world) (st .counters) _ _ (send-facts (a .args .i) n maxIssues (z .world) (a .args .i) (a .args .j)) _ _ _ (s .send .ensures n cap k (z .world) q short (st .world)) _ _ _ _ (r .0) (r .1) (r .3))
+    let r = c .before .before .conclude .ensures in (
+      bounded _ _ _ _ _ _ _ (d .holds) _ _ (send-facts (a .args .i) (d .n) maxIssues (d .world) (a .args .i) (a .args .j)) _ _ _ t (c .before .before .conclude .result) _ (r .0) (r .2),
+      λ n cap k z q short st. took-step n cap k z _ _ q _ (st .world) (st .counters) _ _ (send-facts (a .args .i) n maxIssues (z .world) (a .args .i) (a .args .j)) _ _ _ (s .send .ensures n cap k (z .world) q short (st .world)) _ _ _ _ (r .0) (r .1) (r .3),
+    )
 
 pub send-spec : {M : Type 1} → statement M
 send-spec = tie.close (tie.spec send-requires conclude-requires same-length same-length-2 returns)

@@ -64,12 +64,16 @@ loop-again : tie.Need-loop-again Inv-loop μ-loop
 loop-again c =
     let w = c .before .before .before .before .before .before .before .before in
     let r = c .before .before .before .put-issue .ensures in
-    let h = c .before .before .before .before .before .read .ensures in
-    (omega arith, omega arith, c .before .before .before .put-issue .kept .0 ∙ w .loop .inv .2, omega (arith, w .loop .inv .3, r .0),
-    λ f b m e.
-        let s = w .loop .inv .4 f b m e in
-        let part = log-part f _ (w .loop .i) (w .loop .next) (c .frame-end .result) b (omega arith) (s .here) (c .frame-end .ensures) in
-        issuing-goes _ _ f _ _ _ _ (w .loop .i) _ _ _ _ s (omega arith) (h ∙ ap header (rest-part _ (w .loop .next)) ∙ part .head) (part .next) (r .1) (r .2))
+    let h = c .before .before .before .before .before .read .ensures in (
+      omega arith,
+      omega arith,
+      c .before .before .before .put-issue .kept .0 ∙ w .loop .inv .2,
+      omega (arith, w .loop .inv .3, r .0),
+      λ f b m e.
+          let s = w .loop .inv .4 f b m e in
+          let part = log-part f _ (w .loop .i) (w .loop .next) (c .frame-end .result) b (omega arith) (s .here) (c .frame-end .ensures) in
+          issuing-goes _ _ f _ _ _ _ (w .loop .i) _ _ _ _ s (omega arith) (h ∙ ap header (rest-part _ (w .loop .next)) ∙ part .head) (part .next) (r .1) (r .2),
+    )
 
 same-length : tie.Need-same-length Inv-loop μ-loop
 same-length c = c .before .loop .inv .2

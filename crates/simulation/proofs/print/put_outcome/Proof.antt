@@ -107,12 +107,13 @@ returns-5 c =
     let a = w .before .before .before .before in
     let t = c .before .before .before .before .before .before .put-three .ensures in
     let r = c .before .before .put-issues2 .ensures in
-    let q = small-delivered _ _ (a .pre .0) _ _ _ (w .o4 .given .1) in
-    (omega (arith, t .0, r .0, three-numbers 68 (a .args .x) (w .o4 .given .0 .0) (w .o4 .given .0 .1 .0) (q .0) (q .1) (q .2)),
-    λ f b m e.
-        let d = r .1 f b m e in
-        let z = shown-both _ _ _ _ _ _ _ _ (t .0) (t .1) (d .0) (d .1) in
-        shown _ _ _ _ _ _ (printed-delivered _ _ _ _ _ _ (w .o4 .given .1)) (z .0) (z .1))
+    let q = small-delivered _ _ (a .pre .0) _ _ _ (w .o4 .given .1) in (
+      omega (arith, t .0, r .0, three-numbers 68 (a .args .x) (w .o4 .given .0 .0) (w .o4 .given .0 .1 .0) (q .0) (q .1) (q .2)),
+      λ f b m e.
+          let d = r .1 f b m e in
+          let z = shown-both _ _ _ _ _ _ _ _ (t .0) (t .1) (d .0) (d .1) in
+          shown _ _ _ _ _ _ (printed-delivered _ _ _ _ _ _ (w .o4 .given .1)) (z .0) (z .1),
+    )
 
 pub put-outcome-spec : {M : Type 1} → statement M
 put-outcome-spec =
