@@ -1,5 +1,5 @@
 -- A run over lent bytes: refused where the output is too short, and then it stays as it is.
-use Prim.Native.Nat.{ℕ}
+use Prim.Native.Nat.{ℕ, _≤_}
 use mathlib.Core.Bool.{cond}
 use mathlib.Core.List.{List}
 use lib.Dec.{ltb}
@@ -21,5 +21,11 @@ pub record AfterRun : Type 0 where
 abbrev pub afterRun : Ran → List ℕ → AfterRun
 afterRun r out = record { answer = r; out = out }
 
+-- a shorter output is refused, and of any other the front becomes what the yard prints
 unfoldable pub runCall : List ℕ → List ℕ → AfterRun
 runCall input out = cond (ltb (length out) outputSize) (afterRun ran.TooShort out) (afterRun (ran.Written (length (output input))) (put out 0 (output input)))
+
+-- what is written is never longer than an output that is not refused
+abbrev pub Fits : Ran → Type 0
+Fits ran.TooShort = Unit {0}
+Fits (ran.Written k) = k ≤ outputSize

@@ -14,10 +14,10 @@ ghost use lib.ListN.{length, drop};
 ghost use Rattle.wire.specs.Bytes.{put};
 ghost use Rattle.text.specs.Pieces.{split};
 ghost use Rattle.commands.specs.declared.FirstLine.the-variants as first;
-ghost use Rattle.causality.specs.Demand3.{start as before};
+ghost use Rattle.causality.specs.Demand3.{start};
 ghost use Rattle.world.specs.Stored.{Holds};
 ghost use Rattle.simulation.specs.Yard.{maxInput, maxIssues, lines, opened, started};
-ghost use Rattle.simulation.specs.Run.{outputSize, afterRun, runCall};
+ghost use Rattle.simulation.specs.Run.{outputSize, afterRun, runCall, Fits};
 ghost use Rattle.simulation.specs.Stands.{Opened};
 
 /// Issues of a yard at most.
@@ -52,22 +52,22 @@ pub enum Ran {
     Written(usize),
 }
 
-// The lines behind the first, which begin at `start`: those that end with a line feed, and what stands behind the last one. Gives how many bytes are printed.
+// The lines behind the first, which begin at `from`: those that end with a line feed, and what stands behind the last one. Gives how many bytes are printed.
 fn run_lines(
     w: World,
     input: &[u8],
-    start: usize,
+    from: usize,
     queues: &mut [u8],
     log: &mut [u8],
     out: &mut [u8],
 ) -> usize
-    requires { ⌜ Opened w (now queues) (now log) × (start ≤ length (now input)) × (length (now input) ≤ maxInput) × (outputSize ≤ length (now out)) ⌝ }
-    ensures { λ r. ⌜ ((n cap : ℕ) → Holds n cap maxIssues 0 (before n cap) w (now (queues .entry)) (now (log .entry)) → (r ≡ length (lines n (opened n cap) (split 10 (drop start (now (input .entry)))))) × (now (out .exit) ≡ put (now (out .entry)) 0 (lines n (opened n cap) (split 10 (drop start (now (input .entry))))))) ⌝ }
+    requires { ⌜ Opened w (now queues) (now log) × (from ≤ length (now input)) × (length (now input) ≤ maxInput) × (outputSize ≤ length (now out)) ⌝ }
+    ensures { λ r. ⌜ (r ≤ outputSize) × ((n cap : ℕ) → Holds n cap maxIssues 0 (start n cap) w (now (queues .entry)) (now (log .entry)) → (r ≡ length (lines n (opened n cap) (split 10 (drop from (now (input .entry)))))) × (now (out .exit) ≡ put (now (out .entry)) 0 (lines n (opened n cap) (split 10 (drop from (now (input .entry))))))) ⌝ }
 {
     let counters = counters::no_counters();
     let mut yard = Yard { world: w, counters };
     let mut pos: usize = 0;
-    let mut at = start;
+    let mut at = from;
     let mut end = text::find(input, at, b'\n');
     while end < input.len() {
         let t = line::take(yard, &input[at..end], queues, log, out, pos);
@@ -83,7 +83,7 @@ fn run_lines(
 // A yard of these sizes on the lines from `at` on, where they are in range. Gives how many bytes are printed.
 fn run_sizes(n: usize, cap: usize, input: &[u8], at: usize, out: &mut [u8]) -> usize
     requires { ⌜ (at ≤ length (now input)) × (length (now input) ≤ maxInput) × (outputSize ≤ length (now out)) ⌝ }
-    ensures { λ r. ⌜ (r ≡ length (started (first.Sizes n cap) (split 10 (drop at (now (input .entry)))))) × (now (out .exit) ≡ put (now (out .entry)) 0 (started (first.Sizes n cap) (split 10 (drop at (now (input .entry)))))) ⌝ }
+    ensures { λ r. ⌜ (r ≤ outputSize) × (r ≡ length (started (first.Sizes n cap) (split 10 (drop at (now (input .entry)))))) × (now (out .exit) ≡ put (now (out .entry)) 0 (started (first.Sizes n cap) (split 10 (drop at (now (input .entry)))))) ⌝ }
 {
     let caps = [cap; 4];
     if !world::start::startable(n, caps) {
@@ -97,7 +97,7 @@ fn run_sizes(n: usize, cap: usize, input: &[u8], at: usize, out: &mut [u8]) -> u
 
 /// The yard: writes what it prints for an input. An output shorter than `OUTPUT_SIZE` is refused and left as it is.
 pub fn run(input: &[u8], out: &mut [u8]) -> Ran
-    ensures { λ r. ⌜ afterRun r (now (out .exit)) ≡ runCall (now (input .entry)) (now (out .entry)) ⌝ }
+    ensures { λ r. ⌜ (afterRun r (now (out .exit)) ≡ runCall (now (input .entry)) (now (out .entry))) × Fits r ⌝ }
 {
     if out.len() < OUTPUT_SIZE {
         return Ran::TooShort;

@@ -115,7 +115,7 @@ pub fn put_outcome(
 /// The counters.
 pub fn put_total(out: &mut [u8], at: usize, t: Counters) -> usize
     requires { ⌜ at + 57 ≤ length (now out) ⌝ }
-    ensures { λ r. ⌜ (r ≡ at + length (totalRow t)) × (now (out .exit) ≡ put (now (out .entry)) at (totalRow t)) ⌝ }
+    ensures { λ r. ⌜ (r ≤ at + 57) × (r ≡ at + length (totalRow t)) × (now (out .exit) ≡ put (now (out .entry)) at (totalRow t)) ⌝ }
 {
     let values = [t.user, t.extras, t.delivered, t.delays, t.share];
     text::put_row(out, at, b'T', &values)
@@ -124,7 +124,7 @@ pub fn put_total(out: &mut [u8], at: usize, t: Counters) -> usize
 /// The end of the output: a refusal where bytes stand behind the last line feed, and the counters.
 pub fn put_ending(out: &mut [u8], at: usize, rest: bool, t: Counters) -> usize
     requires { ⌜ at + 63 ≤ length (now out) ⌝ }
-    ensures { λ r. ⌜ (r ≡ at + length (cond rest (refusalRow 17) [] ++ totalRow t)) × (now (out .exit) ≡ put (now (out .entry)) at (cond rest (refusalRow 17) [] ++ totalRow t)) ⌝ }
+    ensures { λ r. ⌜ (r ≤ at + 63) × (r ≡ at + length (cond rest (refusalRow 17) [] ++ totalRow t)) × (now (out .exit) ≡ put (now (out .entry)) at (cond rest (refusalRow 17) [] ++ totalRow t)) ⌝ }
 {
     if rest {
         let end = put_refusal(out, at, 17);

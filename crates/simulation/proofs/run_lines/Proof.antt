@@ -6,21 +6,22 @@ use borrow.Author.Needs.{needs}
 use lib.ListN.{length, take, drop, length-drop}
 use lib.Seq.{length-take-le}
 use Rattle.text.specs.Pieces.{before}
-use Rattle.causality.specs.Demand3.{start as begin}
+use Rattle.causality.specs.Demand3.{start}
 use Rattle.world.specs.Stored.{Holds}
+use Rattle.simulation.specs.Run.{outputSize}
 use Rattle.simulation.specs.Yard.{maxIssues}
 use Rattle.simulation.proofs.Lines.{Running, running-ends, running-goes, running-standing, running-starts}
 use Rattle.simulation.proofs.run_lines.Statement.{statement}
 use Rattle.simulation.proofs.run_lines.Tie as tie
 
 abbrev Inv-loop : tie.InvT-loop
-Inv-loop input start queues₀ log₀ out₀ yard₀ pos₀ at₀ end₀ queues log out yard pos at end =
+Inv-loop input from queues₀ log₀ out₀ yard₀ pos₀ at₀ end₀ queues log out yard pos at end =
     (at ≤ length input) × (end ≡ at + before 10 (drop at input)) × (end ≤ length input) × (length queues ≡ length queues₀) × (length log ≡ length log₀) × (length out ≡ length out₀)
     × (pos ≤ 5 * at + 17 * yard .world .issued)
-    × ((n cap : ℕ) → Holds n cap maxIssues 0 (begin n cap) (yard₀ .world) queues₀ log₀ → Running n cap input start out₀ yard queues log out at pos)
+    × ((n cap : ℕ) → Holds n cap maxIssues 0 (start n cap) (yard₀ .world) queues₀ log₀ → Running n cap input from out₀ yard queues log out at pos)
 
 abbrev μ-loop : tie.MeasureT-loop
-μ-loop input start queues₀ log₀ out₀ yard₀ pos₀ at₀ end₀ queues log out yard pos at end = length input - at
+μ-loop input from queues₀ log₀ out₀ yard₀ pos₀ at₀ end₀ queues log out yard pos at end = length input - at
 
 no-counters-requires : tie.Need-no-counters-requires Inv-loop μ-loop
 no-counters-requires c κs = search needs
@@ -33,7 +34,7 @@ loop-holds c =
     (search needs, c .find .ensures .0, c .find .ensures .1, refl, refl, refl, omega arith, λ n cap h. running-starts n cap _ _ _ _ _ _ h (c .before .no-counters .ensures))
 
 -- the yard at a turn of the loop, for some n and cap
-turn : (c : tie.At-loop Inv-loop μ-loop) → let p = c .before .before .before .before .before .before .before .pre .0 in Running (p .n) (p .cap) (c .before .before .before .before .before .before .before .args .input .now) (c .before .before .before .before .before .before .before .args .start) (c .before .before .before .before .before .before .before .args .out .now) (c .loop .yard) (c .loop .queues) (c .loop .log) (c .loop .out) (c .loop .at) (c .loop .pos)
+turn : (c : tie.At-loop Inv-loop μ-loop) → let p = c .before .before .before .before .before .before .before .pre .0 in Running (p .n) (p .cap) (c .before .before .before .before .before .before .before .args .input .now) (c .before .before .before .before .before .before .before .args .from) (c .before .before .before .before .before .before .before .args .out .now) (c .loop .yard) (c .loop .queues) (c .loop .log) (c .loop .out) (c .loop .at) (c .loop .pos)
 turn c = let p = c .before .before .before .before .before .before .before .pre .0 in c .loop .inv .7 (p .n) (p .cap) (p .holds)
 
 sub-take : tie.Need-sub-take Inv-loop μ-loop
@@ -78,12 +79,18 @@ loop-again c =
           running-goes n cap _ _ _ _ _ _ _ _ _ _ r (w .loop .inv .1) (omega arith) _ _ _ _ (t .ensures .1 n cap (r .steps) (r .yard) (omega (arith, r .few, w .loop .inv .0, w .before .before .before .before .before .before .before .pre .2)) (r .stands)),
     )
 
+-- what is printed ends well before the output does
+room-left : (c : tie.After-loop Inv-loop μ-loop) → c .before .loop .pos + 63 ≤ outputSize
+room-left c =
+    let w = c .before in
+    let r = turn w in
+    let p = w .before .before .before .before .before .before .before .pre in
+    omega (arith, w .loop .inv .0, w .loop .inv .6, r .stands .world .issued, r .stands .world .below, p .2)
+
 put-ending-requires : tie.Need-put-ending-requires Inv-loop μ-loop
 put-ending-requires c κs =
     let w = c .before .before .before in
-    let r = turn w in
-    let p = w .before .before .before .before .before .before .before .pre in
-    omega (arith, w .loop .inv .0, w .loop .inv .5, w .loop .inv .6, r .stands .world .issued, r .stands .world .below, p .2, p .3)
+    omega (arith, room-left (c .before .before), w .loop .inv .5, w .before .before .before .before .before .before .before .pre .3)
 
 same-length : tie.Need-same-length Inv-loop μ-loop
 same-length c = c .before .before .before .before .before .before .loop .inv .3
@@ -98,7 +105,8 @@ returns : tie.Need-returns Inv-loop μ-loop
 returns c =
     let w = c .before .before .before .before .before .before in
     let r = c .before .before .put-ending .ensures in
-    λ n cap h. running-ends n cap _ _ _ _ _ _ _ _ _ (w .loop .end) (w .loop .inv .7 n cap h) (w .loop .inv .1) (omega (arith, w .loop .inv .2)) (w .loop .inv .0) _ refl _ _ (r .0) (r .1)
+    (omega (arith, r .0, room-left (c .before .before .before .before .before)),
+    λ n cap h. running-ends n cap _ _ _ _ _ _ _ _ _ (w .loop .end) (w .loop .inv .7 n cap h) (w .loop .inv .1) (omega (arith, w .loop .inv .2)) (w .loop .inv .0) _ refl _ _ (r .1) (r .2))
 
 pub run-lines-spec : {M : Type 1} → statement M
 run-lines-spec =

@@ -1,6 +1,7 @@
 -- Sizes out of range are refused; in range, the start is stored and the lines follow. Assumes nothing.
 use mathlib.Core.Path.{_∙_, refl}
 use native.Mathlib.Nat.{zero-add}
+use native.Mathlib.Omega.{arith}
 use Rattle.wire.proofs.Tests.{denied, passed}
 use Rattle.world.specs.Stored.{logSize}
 use Rattle.simulation.proofs.Outcomes.{shown-first}
@@ -22,7 +23,8 @@ returns : tie.Need-returns
 returns c =
     let r = c .before .before .put-refusal .ensures in
     let e = started-no _ _ _ (denied _ _ (c .before .before .before .before .before .startable .ensures) (c .before .before .before .before .if1 .taken)) in
-    shown-first _ _ _ _ _ e (r .1 ∙ zero-add _) (r .2)
+    let z = shown-first _ _ _ _ _ e (r .1 ∙ zero-add _) (r .2) in
+    (omega (arith, r .0), z .0, z .1)
 
 fresh-requires : tie.Need-fresh-requires
 fresh-requires c κs = search needs
@@ -46,8 +48,10 @@ returns-2 : tie.Need-returns-2
 unfolding logSize
 returns-2 c =
     let s = passed _ _ (c .before .before .before .before .before .before .before .before .before .before .startable .ensures) (c .before .before .before .before .before .before .before .before .before .if1 .left) in
-    let r = c .before .before .before .before .run-lines .ensures _ _ (stored-start _ _ s _ (c .before .before .before .before .before .before .before .before .fresh .ensures) 51328 53376 refl refl) in
-    shown-first _ _ _ _ _ (started-yes _ _ _ s) (r .0) (r .1)
+    let r = c .before .before .before .before .run-lines .ensures in
+    let d = r .1 _ _ (stored-start _ _ s _ (c .before .before .before .before .before .before .before .before .fresh .ensures) 51328 53376 refl refl) in
+    let z = shown-first _ _ _ _ _ (started-yes _ _ _ s) (d .0) (d .1) in
+    (r .0, z .0, z .1)
 
 pub run-sizes-spec : {M : Type 1} → statement M
 run-sizes-spec =
