@@ -18,7 +18,7 @@ use Rattle.holdback.specs.Slots.{queueSize, zeros}
 use Rattle.causality.specs.Demand3.{start}
 use Rattle.world.specs.Stored.{Holds, fresh, logSize, maxSimulated, startable}
 use Rattle.world.specs.declared.World.{World}
-use Rattle.simulation.specs.Run.{AfterRun, afterRun, outputSize, runCall}
+use Rattle.simulation.specs.Run.{Fits, afterRun, outputSize, runCall}
 use Rattle.simulation.specs.Yard.{alone, lines, maxInput, maxIssues, ofLines, opened, output, started}
 use Rattle.simulation.specs.declared.Ran.{Ran}
 use Rattle.simulation.specs.declared.Ran.the-variants as ran
@@ -83,3 +83,7 @@ pub run-written : (s o : List ℕ) → outputSize ≤ length o → (p : List ℕ
 unfolding runCall
 run-written s o h p e r o′ er eo =
     rw (le-ltb (length o) outputSize h) (ap₂ (λ (x : ℕ) (y : List ℕ). afterRun (ran.Written x) y) (er ∙ ap length (sym e)) (eo ∙ ap (put o 0) (sym e)))
+
+-- what a run wrote fits an output that is long enough
+pub written-fits : (r : Ran) (k : ℕ) (o : List ℕ) → r ≡ ran.Written k → Fits r → outputSize ≤ length o → k ≤ length o
+written-fits r k o e f h = let g : k ≤ outputSize = subst Fits e f in omega arith

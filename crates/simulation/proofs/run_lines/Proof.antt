@@ -104,9 +104,10 @@ same-length-3 c = c .before .before .put-ending .kept .0 ∙ c .before .before .
 returns : tie.Need-returns Inv-loop μ-loop
 returns c =
     let w = c .before .before .before .before .before .before in
-    let r = c .before .before .put-ending .ensures in
-    (omega (arith, r .0, room-left (c .before .before .before .before .before)),
-    λ n cap h. running-ends n cap _ _ _ _ _ _ _ _ _ (w .loop .end) (w .loop .inv .7 n cap h) (w .loop .inv .1) (omega (arith, w .loop .inv .2)) (w .loop .inv .0) _ refl _ _ (r .1) (r .2))
+    let r = c .before .before .put-ending .ensures in (
+      omega (arith, r .0, room-left (c .before .before .before .before .before)),
+      λ n cap h. running-ends n cap _ _ _ _ _ _ _ _ _ (w .loop .end) (w .loop .inv .7 n cap h) (w .loop .inv .1) (omega (arith, w .loop .inv .2)) (w .loop .inv .0) _ refl _ _ (r .1) (r .2),
+    )
 
 pub run-lines-spec : {M : Type 1} → statement M
 run-lines-spec =
