@@ -1,0 +1,3 @@
+-- Laws that the proofs of this crate cite, and worked examples.
+pub mod Parts
+pub mod Examples

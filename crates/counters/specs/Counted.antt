@@ -1,0 +1,42 @@
+-- The counters (document 01: the tally), and what each step of the yard does to them. A count stays at 4,294,967,295 once it is there.
+use Prim.Native.Nat.{ℕ, _+_, _*_, _/_, min}
+use mathlib.Core.Bool.{cond}
+use lib.Dec.{eqb}
+use Rattle.counters.specs.declared.Counters.{Counters}
+
+-- the smaller of the number and the largest number of 32 bits
+unfoldable pub upTo32 : ℕ → ℕ
+upTo32 x = min x 4294967295
+
+-- extras per hundred user frames, rounded down; 0 without user frames
+unfoldable pub share : ℕ → ℕ → ℕ
+share extras user = cond (eqb user 0) 0 (upTo32 (extras * 100 / user))
+
+-- the counters before the first step
+unfoldable pub noCounters : Counters
+noCounters = record { user = 0; extras = 0; delivered = 0; delays = 0; share = 0 }
+
+-- x extra frames more, and the share anew
+unfoldable pub withExtras : Counters → ℕ → Counters
+withExtras t x =
+    let extras = upTo32 (t .extras + x) in
+    record { user = t .user; extras = extras; delivered = t .delivered; delays = t .delays; share = share extras (t .user) }
+
+-- a send: one user frame more, and x extra frames more issued
+unfoldable pub countedSend : Counters → ℕ → Counters
+countedSend t x =
+    withExtras (record { user = upTo32 (t .user + 1); extras = t .extras; delivered = t .delivered; delays = t .delays; share = t .share }) x
+
+-- an accepted offer: nothing is counted; x is 1 where the frame has to wait, 0 otherwise
+unfoldable pub countedOffer : Counters → ℕ → Counters
+countedOffer t x = t
+
+-- a delivery: one frame more delivered, of either kind, and x extra frames more issued
+unfoldable pub countedDelivery : Counters → ℕ → Counters
+countedDelivery t x =
+    withExtras (record { user = t .user; extras = t .extras; delivered = upTo32 (t .delivered + 1); delays = t .delays; share = t .share }) x
+
+-- a deliver that answers none (document 01: an N line): one delay more; x is how many held frames were tried
+unfoldable pub countedNothing : Counters → ℕ → Counters
+countedNothing t x =
+    record { user = t .user; extras = t .extras; delivered = t .delivered; delays = upTo32 (t .delays + 1); share = t .share }

@@ -1,0 +1,10 @@
+-- Laws of `simulation`, and document 01's example.
+pub mod Rows
+pub mod Outcomes
+pub mod Start
+pub mod Parsed
+pub mod Facts
+pub mod Concluding
+pub mod Lines
+pub mod Runs
+pub mod Example

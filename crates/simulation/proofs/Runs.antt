@@ -1,0 +1,89 @@
+-- A run by its tests: the output's length, the input's, and the first line. Assumes nothing.
+use Prim.Native.Nat.{ℕ, _+_, _-_, _*_, _≤_, _<_}
+use mathlib.Core.Bool.{true, false, cond}
+use mathlib.Core.List.{List, [], _∷_}
+use mathlib.Core.Path.{_≡_, refl, sym, ap, ap₂, _∙_, subst}
+use native.Mathlib.Nat.{sub-zero}
+use native.Mathlib.Omega.{arith}
+use borrow.Author.Tests.{le-ltb, lt-ltb}
+use lib.Dec.{ltb}
+use lib.ListN.{length, take, drop, replicate, length-replicate}
+use Rattle.wire.specs.Bytes.{put}
+use Rattle.text.specs.Pieces.{before, split}
+use Rattle.text.proofs.Pieces.{split-found, split-none, split-some}
+use Rattle.commands.specs.FirstLine.{firstLine}
+use Rattle.commands.specs.declared.FirstLine.{FirstLine}
+use Rattle.commands.specs.declared.FirstLine.the-variants as first
+use Rattle.holdback.specs.Slots.{queueSize, zeros}
+use Rattle.causality.specs.Demand3.{start}
+use Rattle.world.specs.Stored.{Holds, fresh, logSize, maxSimulated, startable}
+use Rattle.world.specs.declared.World.{World}
+use Rattle.simulation.specs.Run.{Fits, afterRun, outputSize, runCall}
+use Rattle.simulation.specs.Yard.{alone, lines, maxInput, maxIssues, ofLines, opened, output, started}
+use Rattle.simulation.specs.declared.Ran.{Ran}
+use Rattle.simulation.specs.declared.Ran.the-variants as ran
+use Rattle.simulation.proofs.Start.{array-zeros, holds-start}
+
+-- the start in two local arrays of zeros
+pub stored-start : (n c : ℕ) → startable n (c ∷ c ∷ c ∷ c ∷ []) ≡ true → (w : World) → w ≡ fresh n (c ∷ c ∷ c ∷ c ∷ []) → (i j : ℕ) → i ≡ queueSize * maxSimulated → j ≡ logSize maxIssues
+    → Holds n c maxIssues 0 (start n c) w (replicate i 0) (replicate j 0)
+stored-start n c s w e i j a b =
+    subst (λ (x : World). Holds n c maxIssues 0 (start n c) x (replicate i 0) (replicate j 0)) (sym e)
+    (holds-start n c s (replicate i 0) (replicate j 0) (array-zeros i ∙ ap zeros a) (length-replicate j 0 ∙ b))
+
+-- a first line's sizes in range, or not
+pub started-yes : (n c : ℕ) (ls : List (List ℕ)) → startable n (c ∷ c ∷ c ∷ c ∷ []) ≡ true → started (first.Sizes n c) ls ≡ lines n (opened n c) ls
+unfolding started
+started-yes n c ls e = rw e
+
+pub started-no : (n c : ℕ) (ls : List (List ℕ)) → startable n (c ∷ c ∷ c ∷ c ∷ []) ≡ false → started (first.Sizes n c) ls ≡ alone
+unfolding started
+started-no n c ls e = rw e
+
+started-other : (ls : List (List ℕ)) → started first.Other ls ≡ alone
+unfolding started
+started-other ls = refl
+
+-- an input that is too long, one without a line feed, and one with a first line
+lines-first : (l : List ℕ) (ps : List (List ℕ)) → 1 ≤ length ps → ofLines (l ∷ ps) ≡ started (firstLine l) ps
+unfolding ofLines
+lines-first l [] h = absurd (omega arith)
+lines-first l (p ∷ ps) h = refl
+
+lines-alone : (l : List ℕ) → ofLines (l ∷ []) ≡ alone
+unfolding ofLines
+lines-alone l = refl
+
+module _ (s : List ℕ) where
+  pub output-long : maxInput < length s → output s ≡ alone
+  unfolding output
+  output-long h = rw (lt-ltb maxInput (length s) h)
+
+  module _ (h : length s ≤ maxInput) (end : ℕ) (e : end ≡ 0 + before 10 (drop 0 s)) where
+    pub output-none : end ≡ length s → output s ≡ alone
+    unfolding output
+    output-none z = rw (le-ltb maxInput (length s) h) (ap ofLines (split-none 10 s 0 end e z (omega arith)) ∙ lines-alone s)
+
+    pub output-first : end < length s → (f : FirstLine) → firstLine (take end s) ≡ f → output s ≡ started f (split 10 (drop (end + 1) s))
+    unfolding output
+    output-first l f g =
+        rw (le-ltb maxInput (length s) h)
+        (ap ofLines (split-found 10 s 0 end e l) ∙ lines-first (take (end - 0) s) (split 10 (drop (end + 1) s)) (split-some 10 (drop (end + 1) s))
+        ∙ ap (λ (k : ℕ). started (firstLine (take k s)) (split 10 (drop (end + 1) s))) (sub-zero end) ∙ ap (λ (x : FirstLine). started x (split 10 (drop (end + 1) s))) g)
+
+    pub output-other : end < length s → firstLine (take end s) ≡ first.Other → output s ≡ alone
+    output-other l g = output-first l first.Other g ∙ started-other (split 10 (drop (end + 1) s))
+
+-- what a run leaves
+pub run-short : (s o : List ℕ) → length o < outputSize → afterRun ran.TooShort o ≡ runCall s o
+unfolding runCall
+run-short s o h = rw (lt-ltb (length o) outputSize h)
+
+pub run-written : (s o : List ℕ) → outputSize ≤ length o → (p : List ℕ) → output s ≡ p → (r : ℕ) (o′ : List ℕ) → r ≡ length p → o′ ≡ put o 0 p → afterRun (ran.Written r) o′ ≡ runCall s o
+unfolding runCall
+run-written s o h p e r o′ er eo =
+    rw (le-ltb (length o) outputSize h) (ap₂ (λ (x : ℕ) (y : List ℕ). afterRun (ran.Written x) y) (er ∙ ap length (sym e)) (eo ∙ ap (put o 0) (sym e)))
+
+-- what a run wrote fits an output that is long enough
+pub written-fits : (r : Ran) (k : ℕ) (o : List ℕ) → r ≡ ran.Written k → Fits r → outputSize ≤ length o → k ≤ length o
+written-fits r k o e f h = let g : k ≤ outputSize = subst Fits e f in omega arith

@@ -1,0 +1,108 @@
+//! A line of the yard: its command is a step of the world, which is printed and counted.
+use super::MAX_ISSUES;
+use super::Taken;
+use super::Yard;
+use super::count;
+use super::print;
+use commands::Command;
+use counters::Counters;
+use world::Stepped;
+ghost use mathlib.Core.Path.{_≡_};
+ghost use mathlib.Core.List.{List};
+ghost use Prim.Native.Nat.{ℕ, _+_, _-_, _*_, _≤_, _<_};
+ghost use lib.ListN.{length, take, drop};
+ghost use Rattle.wire.specs.Bytes.{put};
+ghost use Rattle.commands.specs.Commands.{command};
+ghost use Rattle.commands.specs.declared.Command.the-variants as command;
+ghost use Rattle.world.specs.Stored.{Begins, joined, Standing, StandingRecords};
+ghost use Rattle.simulation.specs.Yard.{Yard as Lists, maxIssues, issueRows, printedBy, countedBy, line};
+ghost use Rattle.simulation.specs.Asked.{Few, Small, Logged};
+ghost use Rattle.simulation.specs.Stands.{Room, Stands, Took};
+
+// What a step leaves and prints: before it there were `from` issues, of which the last ends at `place`.
+fn conclude(
+    t: Counters,
+    x: usize,
+    s: Stepped,
+    log: &[u8],
+    place: usize,
+    from: usize,
+    out: &mut [u8],
+    at: usize,
+) -> Taken
+    requires { ⌜ Few (s .outcome) × Small x (s .outcome) × Logged from (s .world .issued) place (now log) × (at + 20 + 17 * (s .world .issued - from) ≤ length (now out)) ⌝ }
+    ensures { λ r. ⌜ (r .yard .world ≡ s .world) × (r .yard .counters ≡ countedBy t (s .outcome)) × (r .end ≤ at + 20 + 17 * (s .world .issued - from)) × ((f : List (List ℕ)) → Begins f (now (log .entry)) → length f ≡ s .world .issued → place ≡ length (joined (take from f)) → (r .end ≡ at + length (printedBy x (issueRows (from + 1) (drop from f)) (s .outcome))) × (now (out .exit) ≡ put (now (out .entry)) at (printedBy x (issueRows (from + 1) (drop from f)) (s .outcome)))) ⌝ }
+{
+    let outcome = s.outcome;
+    let to = s.world.issued;
+    let end = print::put_outcome(out, at, x, outcome, log, place, from, to);
+    let counters = count::counted(t, outcome);
+    let world = s.world;
+    Taken {
+        yard: Yard { world, counters },
+        end,
+    }
+}
+
+// S: a send.
+fn send(y: Yard, i: usize, j: usize, log: &mut [u8], out: &mut [u8], at: usize) -> Taken
+    requires { ⌜ StandingRecords maxIssues (y .world) (now log) × Room at y (now out) ⌝ }
+    ensures { λ r. ⌜ (r .end + 17 * y .world .issued ≤ at + 20 + 17 * r .yard .world .issued) × ((n cap k : ℕ) (z : Lists) (q : List ℕ) → k + 1 < 1000000000 → Stands n cap k z y q (now (log .entry)) → Took n cap k (line n z (command.Send i j)) at (now (out .entry)) r q (now (log .exit)) (now (out .exit))) ⌝ }
+{
+    let from = y.world.issued;
+    let place = y.world.end;
+    let t = y.counters;
+    let w = y.world;
+    let s = world::send::send(w, MAX_ISSUES, i, j, log);
+    conclude(t, i, s, log, place, from, out, at)
+}
+
+// A: an offer.
+fn offer(y: Yard, m: usize, queues: &mut [u8], log: &[u8], out: &mut [u8], at: usize) -> Taken
+    requires { ⌜ (m < 1000) × Standing maxIssues (y .world) (now queues) (now log) × Room at y (now out) ⌝ }
+    ensures { λ r. ⌜ (r .end + 17 * y .world .issued ≤ at + 20 + 17 * r .yard .world .issued) × ((n cap k : ℕ) (z : Lists) → k + 1 < 1000000000 → Stands n cap k z y (now (queues .entry)) (now (log .entry)) → Took n cap k (line n z (command.Offer m)) at (now (out .entry)) r (now (queues .exit)) (now (log .entry)) (now (out .exit))) ⌝ }
+{
+    let from = y.world.issued;
+    let place = y.world.end;
+    let t = y.counters;
+    let w = y.world;
+    let s = world::offer::offer(w, MAX_ISSUES, m, queues, log);
+    conclude(t, m, s, log, place, from, out, at)
+}
+
+// D: a deliver.
+fn deliver(y: Yard, j: usize, queues: &mut [u8], log: &mut [u8], out: &mut [u8], at: usize) -> Taken
+    requires { ⌜ (j < 1000) × Standing maxIssues (y .world) (now queues) (now log) × Room at y (now out) ⌝ }
+    ensures { λ r. ⌜ (r .end + 17 * y .world .issued ≤ at + 20 + 17 * r .yard .world .issued) × ((n cap k : ℕ) (z : Lists) → k + 1 < 1000000000 → Stands n cap k z y (now (queues .entry)) (now (log .entry)) → Took n cap k (line n z (command.Deliver j)) at (now (out .entry)) r (now (queues .exit)) (now (log .exit)) (now (out .exit))) ⌝ }
+{
+    let from = y.world.issued;
+    let place = y.world.end;
+    let t = y.counters;
+    let w = y.world;
+    let s = world::deliver::deliver(w, MAX_ISSUES, j, queues, log);
+    conclude(t, j, s, log, place, from, out, at)
+}
+
+/// A line, which has its line feed no more: steps the world, counts, and prints from `at` on.
+pub fn take(
+    y: Yard,
+    text: &[u8],
+    queues: &mut [u8],
+    log: &mut [u8],
+    out: &mut [u8],
+    at: usize,
+) -> Taken
+    requires { ⌜ Standing maxIssues (y .world) (now queues) (now log) × Room at y (now out) ⌝ }
+    ensures { λ r. ⌜ (r .end + 17 * y .world .issued ≤ at + 5 * (length (now (text .entry)) + 1) + 17 * r .yard .world .issued) × ((n cap k : ℕ) (z : Lists) → k + 1 < 1000000000 → Stands n cap k z y (now (queues .entry)) (now (log .entry)) → Took n cap k (line n z (command (now (text .entry)))) at (now (out .entry)) r (now (queues .exit)) (now (log .exit)) (now (out .exit))) ⌝ }
+{
+    let c = commands::parse_command(text);
+    match c {
+        Command::Send { from, to } => send(y, from, to, log, out, at),
+        Command::Offer(m) => offer(y, m, queues, log, out, at),
+        Command::Deliver(j) => deliver(y, j, queues, log, out, at),
+        Command::Other => {
+            let end = print::put_refusal(out, at, 17);
+            Taken { yard: y, end }
+        }
+    }
+}
