@@ -26,7 +26,6 @@ use Rattle.protocol.specs.Offer as protocolOffer
 use Rattle.protocol.specs.Deliver as protocolDeliver
 use Rattle.wire.specs.Bytes as bytes
 use Rattle.wire.specs.Trailer as trailers
-use Rattle.matrix.specs.Message.{number}
 use Rattle.causality.specs.Demand3.{cutFor}
 use Rattle.text.specs.Pieces.{split, grown}
 use Rattle.text.specs.Fields.{value, continued, isDigit}

@@ -1,6 +1,6 @@
 -- What holds of a step's outcome and world: its numbers are small, and the log only grows. Assumes nothing.
 use Prim.Native.Nat.{ℕ, zero, suc, _+_, _≤_, _<_}
-use mathlib.Core.Bool.{Bool, false, cond, _||_}
+use mathlib.Core.Bool.{Bool, false, _||_}
 use mathlib.Core.List.{List, [], _∷_, _++_, append-nil}
 use mathlib.Core.Option.{Option, none, some}
 use mathlib.Core.Path.{_≡_, refl, sym, ap, _∙_, subst}
@@ -18,11 +18,11 @@ use Rattle.protocol.specs.Answer.{delivery}
 use Rattle.protocol.specs.Deliver.{Search, absent, found, past, search, conclude}
 use Rattle.protocol.specs.Node.{Node}
 use Rattle.protocol.specs.Offer.{deliverable, holding}
-use Rattle.node.proofs.Delivering.{Ready, deliver-accepted, deliver-ready, deliver-refused, searched}
+use Rattle.node.proofs.Delivering.{deliver-accepted, deliver-ready, deliver-refused, searched}
 use Rattle.node.proofs.Offering.{length-messages, offer-accepted, offer-refused}
 use Rattle.node.proofs.Shared.{record-passed}
 use Rattle.node.specs.Answers.{AfterSend, AfterOffer, AfterDeliver}
-use Rattle.node.specs.Calls.{acceptDeliver, acceptOffer, deliverCall, offerCall, refuseOffer, sendCall, triedBy, wasReady}
+use Rattle.node.specs.Calls.{acceptDeliver, deliverCall, offerCall, sendCall, wasReady}
 use Rattle.node.specs.Checks.{deliverRefusal, nodeAt, offerRefusal, shortOutputs}
 use Rattle.node.specs.Sizes.{outSize}
 use Rattle.node.specs.declared.Node.{Node as Record}

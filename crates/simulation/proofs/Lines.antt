@@ -1,6 +1,6 @@
 -- The loop over the lines: what is printed so far, and the definition on the lines that are left. Assumes nothing.
-use Prim.Native.Nat.{ℕ, _+_, _-_, _*_, _≤_, _<_}
-use mathlib.Core.Bool.{Bool, true, false, cond}
+use Prim.Native.Nat.{ℕ, _+_, _-_, _≤_, _<_}
+use mathlib.Core.Bool.{cond}
 use mathlib.Core.List.{List, [], _∷_, _++_}
 use mathlib.Core.Path.{_≡_, refl, sym, ap, _∙_}
 use native.Mathlib.Decide.{decLt}
@@ -10,7 +10,7 @@ use borrow.Author.Tests.{le-ltb, lt-ltb}
 use lib.Dec.{eqb, ltb}
 use lib.ListN.{length, take, drop, length-append, length-drop}
 use Rattle.wire.specs.Bytes.{put}
-use Rattle.wire.proofs.Bytes.{length-put, put-append, put-nil}
+use Rattle.wire.proofs.Bytes.{put-append}
 use Rattle.wire.proofs.Tests.{cond-no, cond-yes, eq→eqb, ne→neqb}
 use Rattle.text.specs.Pieces.{before, split}
 use Rattle.text.proofs.Pieces.{split-found, split-none, split-some}
@@ -19,7 +19,7 @@ use Rattle.counters.specs.Counted.{noCounters}
 use Rattle.counters.specs.declared.Counters.{Counters}
 use Rattle.causality.specs.Demand3.{start}
 use Rattle.world.specs.Stored.{Holds, Standing}
-use Rattle.simulation.specs.Stands.{Opened, Stands, Took}
+use Rattle.simulation.specs.Stands.{Stands, Took}
 use Rattle.simulation.specs.Yard.{AfterLine, Yard, line, lines, maxIssues, opened, refusalRow, totalRow}
 use Rattle.simulation.specs.declared.Taken.{Taken}
 use Rattle.simulation.specs.declared.Yard.{Yard as StoredYard}

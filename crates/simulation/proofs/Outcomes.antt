@@ -1,8 +1,8 @@
 -- Laws of what a step prints and counts, by its outcome. Assumes nothing.
-use Prim.Native.Nat.{ℕ, _+_, _*_, _≤_, _<_}
+use Prim.Native.Nat.{ℕ, _+_, _<_}
 use mathlib.Core.Bool.{Bool}
 use mathlib.Core.List.{List, [], _∷_, _++_}
-use mathlib.Core.Path.{_≡_, refl, sym, ap, _∙_, subst}
+use mathlib.Core.Path.{_≡_, sym, ap, _∙_, subst}
 use native.Mathlib.Omega.{arith}
 use lib.ListN.{length, length-append}
 use Rattle.wire.specs.Bytes.{put}
@@ -42,9 +42,15 @@ module _ (x : ℕ) (o : Outcome) where
   unfolding printedBy
   printed-nothing is k e = ap (printedBy x is) e
 
-  pub printed-delivered : (is : List ℕ) (i k m : ℕ) → o ≡ outcome.Delivered i k m → printedBy x is o ≡ row 68 (x ∷ i ∷ k ∷ []) ++ is
+  printed-delivered : (is : List ℕ) (i k m : ℕ) → o ≡ outcome.Delivered i k m → printedBy x is o ≡ row 68 (x ∷ i ∷ k ∷ []) ++ is
   unfolding printedBy
   printed-delivered is i k m e = ap (printedBy x is) e
+
+  pub shown-delivered : (i k m : ℕ) → o ≡ outcome.Delivered i k m → (is : List ℕ) (at r s : ℕ) (b b′ b″ : List ℕ) → r ≡ at + length (row 68 (x ∷ i ∷ k ∷ [])) → b′ ≡ put b at (row 68 (x ∷ i ∷ k ∷ []))
+      → s ≡ r + length is → b″ ≡ put b′ r is → (s ≡ at + length (printedBy x is o)) × (b″ ≡ put b at (printedBy x is o))
+  shown-delivered i k m e is at r s b b′ b″ l p n q =
+      let z = shown-both (row 68 (x ∷ i ∷ k ∷ [])) is at r s b b′ b″ l p n q in
+      shown (printedBy x is o) (row 68 (x ∷ i ∷ k ∷ []) ++ is) at s b b″ (printed-delivered is i k m e) (z .0) (z .1)
 
   module _ (s : Small x o) where
     pub small-held : (k : ℕ) (b : Bool) → o ≡ outcome.Held k b → (x < 1000) × (k < 100)

@@ -1,5 +1,5 @@
 -- Laws of printed lines: how long they are at most, and the lines of issued frames one after the other. Assumes nothing.
-use Prim.Native.Nat.{ℕ, suc, _+_, _-_, _*_, _≤_, _<_}
+use Prim.Native.Nat.{ℕ, suc, _+_, _-_, _≤_, _<_}
 use mathlib.Core.Bool.{cond}
 use mathlib.Core.List.{List, [], _∷_, _++_}
 use mathlib.Core.Path.{_≡_, refl, sym, ap, _∙_}
@@ -8,12 +8,12 @@ use lib.Dec.{eqb}
 use lib.ListN.{length, getD, take, drop, length-append, length-drop}
 use lib.Seq.{drop-cons, drop-length, take-all}
 use Rattle.wire.specs.Bytes.{put}
-use Rattle.wire.proofs.Bytes.{length-put, put-append}
+use Rattle.wire.proofs.Bytes.{put-append}
 use Rattle.text.specs.Print.{decimal, digits, row, spaced}
 use Rattle.text.proofs.Print.{decimal-few, length-row-nil, length-row-cons}
 use Rattle.frame.specs.Header.{header}
 use Rattle.frame.specs.declared.header.Header.{Header}
-use Rattle.world.specs.Stored.{Begins, joined}
+use Rattle.world.specs.Stored.{joined}
 use Rattle.simulation.specs.Yard.{headerRow, issueRows, refusalRow}
 
 -- numbers of two or three digits behind a letter

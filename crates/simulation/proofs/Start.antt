@@ -1,16 +1,16 @@
 -- The start of a yard is stored. Assumes nothing.
 use Prim.Native.Nat.{ℕ, zero, suc, _+_, _-_, _*_, _≤_, _<_}
-use mathlib.Core.Bool.{Bool, true, false, cond, _&&_, _||_}
-use mathlib.Core.List.{List, [], _∷_, _++_}
+use mathlib.Core.Bool.{Bool, true, false, cond, _&&_}
+use mathlib.Core.List.{List, [], _∷_}
 use mathlib.Core.Logic.{_⊎_, inl, inr}
 use mathlib.Core.Path.{_≡_, refl, sym, ap, _∙_}
 use native.Mathlib.Omega.{arith}
 use lib.Dec.{T, leb, leb→le}
-use lib.ListN.{length, getD, take, drop, replicate}
+use lib.ListN.{length, getD, take, replicate}
 use lib.Seq.{take-at}
-use Rattle.wire.proofs.Tests.{and-T, is-true, of-true, or-T}
+use Rattle.wire.proofs.Tests.{and-T, of-true, or-T}
 use Rattle.matrix.specs.Message.{InRange}
-use Rattle.rules.proofs.Facts.{Ranged, ranged}
+use Rattle.rules.proofs.Facts.{ranged}
 use Rattle.rules.specs.Rules.{inRange}
 use Rattle.holdback.proofs.Slots.{length-zeros, zeros-add, zeros-drop}
 use Rattle.holdback.specs.Slots.{queueSize, zeros}
@@ -19,7 +19,7 @@ use Rattle.node.specs.declared.SetUp.{SetUp}
 use Rattle.node.specs.declared.SetUpAnswer.the-variants.{Refused, Ready}
 use Rattle.causality.specs.Demand3.{start}
 use Rattle.world.proofs.Logs.{joined-none}
-use Rattle.world.specs.Stored.{Begins, Holds, capTaken, fresh, isReady, joined, logSize, maxSimulated, noRecord, queueAt, startable}
+use Rattle.world.specs.Stored.{Holds, capTaken, fresh, isReady, logSize, maxSimulated, noRecord, queueAt, startable}
 use Rattle.simulation.specs.Yard.{maxIssues}
 
 -- a local array of zeros

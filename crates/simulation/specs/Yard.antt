@@ -1,6 +1,6 @@
 -- The yard (document 01): what its lines do and print, and the output of an input. Printed letters are ASCII: A 65, D 68, N 78, R 82, S 83, T 84, X 88.
 use Prim.Native.Nat.{ℕ, _+_}
-use mathlib.Core.Bool.{Bool, true, false, cond, not}
+use mathlib.Core.Bool.{Bool, true, false, cond}
 use mathlib.Core.List.{List, [], _∷_, _++_}
 use lib.Dec.{eqb, ltb}
 use lib.ListN.{length, drop}
@@ -17,7 +17,7 @@ use Rattle.commands.specs.declared.FirstLine.{FirstLine}
 use Rattle.commands.specs.declared.FirstLine.the-variants as first
 use Rattle.counters.specs.declared.Counters.{Counters}
 use Rattle.counters.specs.Counted.{noCounters, countedSend, countedOffer, countedDelivery, countedNothing}
-use Rattle.world.specs.Steps.{AfterStep, refuse, sendStep, offerStep, deliverStep, frames}
+use Rattle.world.specs.Steps.{AfterStep, sendStep, offerStep, deliverStep, frames}
 use Rattle.world.specs.Stored.{startable}
 use Rattle.world.specs.declared.Outcome.{Outcome}
 use Rattle.world.specs.declared.Outcome.the-variants as outcome

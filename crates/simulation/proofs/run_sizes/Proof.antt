@@ -1,9 +1,11 @@
 -- Sizes out of range are refused; in range, the start is stored and the lines follow. Assumes nothing.
+use Prim.Native.Nat.{_≤_}
 use mathlib.Core.Path.{_∙_, refl}
 use native.Mathlib.Nat.{zero-add}
 use native.Mathlib.Omega.{arith}
 use Rattle.wire.proofs.Tests.{denied, passed}
 use Rattle.world.specs.Stored.{logSize}
+use Rattle.simulation.specs.Run.{outputSize}
 use Rattle.simulation.proofs.Outcomes.{shown-first}
 use Rattle.simulation.proofs.Runs.{started-no, started-yes, stored-start}
 use borrow.Author.Needs.{needs}
@@ -22,9 +24,10 @@ same-length c = search needs
 returns : tie.Need-returns
 returns c =
     let r = c .before .before .put-refusal .ensures in
+    let b : c .before .before .put-refusal .result ≤ outputSize = omega (arith, r .0) in
     let e = started-no _ _ _ (denied _ _ (c .before .before .before .before .before .startable .ensures) (c .before .before .before .before .if1 .taken)) in
     let z = shown-first _ _ _ _ _ e (r .1 ∙ zero-add _) (r .2) in
-    (omega (arith, r .0), z .0, z .1)
+    (b, z .0, z .1)
 
 fresh-requires : tie.Need-fresh-requires
 fresh-requires c κs = search needs

@@ -1,7 +1,6 @@
 -- An offer, concluded. Assumes nothing.
-use native.Mathlib.Omega.{arith}
 use borrow.Author.Needs.{needs}
-use Rattle.simulation.specs.Yard.{line, maxIssues}
+use Rattle.simulation.specs.Yard.{line}
 use Rattle.simulation.proofs.Concluding.{bounded, enough, few-told, logged, small-told, took-step}
 use Rattle.simulation.proofs.Facts.{offer-facts}
 use Rattle.simulation.proofs.line.offer.Statement.{statement}

@@ -1,5 +1,4 @@
 -- A send, concluded. Assumes nothing.
-use native.Mathlib.Omega.{arith}
 use borrow.Author.Needs.{needs}
 use Rattle.simulation.specs.Yard.{line, maxIssues}
 use Rattle.simulation.proofs.Concluding.{bounded, enough, few-told, logged, small-told, took-step}

@@ -1,7 +1,6 @@
 -- By the outcome, one line, or the lines of the frames issued. Assumes nothing.
-use mathlib.Core.Path.{_≡_}
 use native.Mathlib.Omega.{arith}
-use Rattle.simulation.proofs.Outcomes.{shown, shown-both, printed-refused, printed-sent, printed-held, printed-nothing, printed-delivered, small-held, small-nothing, small-delivered}
+use Rattle.simulation.proofs.Outcomes.{shown, shown-delivered, printed-refused, printed-sent, printed-held, printed-nothing, small-held, small-nothing, small-delivered}
 use Rattle.simulation.proofs.Rows.{two-numbers, three-numbers}
 use borrow.Author.Needs.{needs}
 use Rattle.simulation.proofs.print.put_outcome.Statement.{statement}
@@ -109,10 +108,7 @@ returns-5 c =
     let r = c .before .before .put-issues2 .ensures in
     let q = small-delivered _ _ (a .pre .0) _ _ _ (w .o4 .given .1) in (
       omega (arith, t .0, r .0, three-numbers 68 (a .args .x) (w .o4 .given .0 .0) (w .o4 .given .0 .1 .0) (q .0) (q .1) (q .2)),
-      λ f b m e.
-          let d = r .1 f b m e in
-          let z = shown-both _ _ _ _ _ _ _ _ (t .0) (t .1) (d .0) (d .1) in
-          shown _ _ _ _ _ _ (printed-delivered _ _ _ _ _ _ (w .o4 .given .1)) (z .0) (z .1),
+      λ f b m e. let d = r .1 f b m e in shown-delivered _ _ _ _ _ (w .o4 .given .1) _ _ _ _ _ _ _ (t .0) (t .1) (d .0) (d .1),
     )
 
 pub put-outcome-spec : {M : Type 1} → statement M
