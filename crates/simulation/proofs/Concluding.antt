@@ -12,11 +12,11 @@ use Rattle.counters.specs.declared.Counters.{Counters}
 use Rattle.causality.specs.Demand3.{Issue, World}
 use Rattle.world.proofs.Keeping.{holds-later}
 use Rattle.world.specs.Steps.{AfterStep, frames}
-use Rattle.world.specs.Stored.{Begins, Holds, joined}
+use Rattle.world.specs.Stored.{Holds, joined}
 use Rattle.world.specs.declared.Outcome.{Outcome}
 use Rattle.world.specs.declared.Stepped.{Stepped}
 use Rattle.world.specs.declared.World.{World as Stored}
-use Rattle.simulation.specs.Asked.{Few, Logged, Small}
+use Rattle.simulation.specs.Asked.{Few, InLog, Logged, Small, Wrote}
 use Rattle.simulation.specs.Stands.{Stands, Took}
 use Rattle.simulation.specs.Yard.{Yard, afterStep, countedBy, issueRows, line, maxIssues, newRows, printedBy, refusalRow}
 use Rattle.simulation.specs.declared.Taken.{Taken}
@@ -55,8 +55,11 @@ module _ (n cap k : ℕ) (v : World) (w : Stored) (q l : List ℕ) (h : Holds n 
   pub small-told : Small x (s .outcome)
   small-told = subst (Small x) (sym (told .0)) (f .small)
 
+  in-log : InLog (w .issued) (s .world .issued) (w .end) l′ g
+  in-log = record { begins = told .1 .begins; whole = whole; ends = ends }
+
   pub logged : Logged (w .issued) (s .world .issued) (w .end) l′
-  logged = record { frames = g; begins = told .1 .begins; whole = whole; ends = ends; order = grows; few = omega (arith, told .1 .issued, told .1 .below) }
+  logged = record { frames = g; log = in-log; order = grows; few = omega (arith, told .1 .issued, told .1 .below) }
 
   pub enough : (at : ℕ) (o : List ℕ) → at + 20 + 17 * (75 - w .issued) ≤ length o → at + 20 + 17 * (s .world .issued - w .issued) ≤ length o
   enough at o r = omega (arith, told .1 .issued, told .1 .below)
@@ -66,19 +69,17 @@ module _ (n cap k : ℕ) (v : World) (w : Stored) (q l : List ℕ) (h : Holds n 
 
   -- what the outcome prints is what the definition prints
   pub printed-told : (at end : ℕ) (o o′ : List ℕ)
-      → ((g : List (List ℕ)) → Begins g l′ → length g ≡ s .world .issued → w .end ≡ length (joined (take (w .issued) g))
-      → (end ≡ at + length (printedBy x (issueRows (w .issued + 1) (drop (w .issued) g)) (s .outcome))) × (o′ ≡ put o at (printedBy x (issueRows (w .issued + 1) (drop (w .issued) g)) (s .outcome))))
-      → (end ≡ at + length (printedBy x (newRows v (a .world)) (a .outcome))) × (o′ ≡ put o at (printedBy x (newRows v (a .world)) (a .outcome)))
+      → ((g : List (List ℕ)) → InLog (w .issued) (s .world .issued) (w .end) l′ g → Wrote (printedBy x (issueRows (w .issued + 1) (drop (w .issued) g)) (s .outcome)) at o end o′)
+      → Wrote (printedBy x (newRows v (a .world)) (a .outcome)) at o end o′
   printed-told at end o o′ p =
-      let d = p g (told .1 .begins) whole ends in
+      let d = p g in-log in
       shown _ _ at end o o′ (sym (ap₂ (λ (i : ℕ) (y : Outcome). printedBy x (issueRows (i + 1) (drop i g)) y) (h .issued) (told .0))) (d .0) (d .1)
 
 -- the line is taken
 module _ (n cap k : ℕ) (z : Yard) (w : Stored) (t : Counters) (q l : List ℕ) (h : Holds n cap maxIssues k (z .world) w q l) (counters : t ≡ z .counters) (x : ℕ) (a : AfterStep) (f : StepFacts x (z .world) a)
     (s : Stepped) (q′ l′ : List ℕ) (told : Told n cap k a (s .outcome) (s .world) q′ l′) where
   pub took-step : (r : Taken) (at : ℕ) (o o′ : List ℕ) → r .yard .world ≡ s .world → r .yard .counters ≡ countedBy t (s .outcome)
-      → ((g : List (List ℕ)) → Begins g l′ → length g ≡ s .world .issued → w .end ≡ length (joined (take (w .issued) g))
-      → (r .end ≡ at + length (printedBy x (issueRows (w .issued + 1) (drop (w .issued) g)) (s .outcome))) × (o′ ≡ put o at (printedBy x (issueRows (w .issued + 1) (drop (w .issued) g)) (s .outcome))))
+      → ((g : List (List ℕ)) → InLog (w .issued) (s .world .issued) (w .end) l′ g → Wrote (printedBy x (issueRows (w .issued + 1) (drop (w .issued) g)) (s .outcome)) at o (r .end) o′)
       → Took n cap k (afterStep z x a) at o r q′ l′ o′
   took-step r at o o′ ew ec p =
       let d = printed-told n cap k (z .world) w q l h x a f s q′ l′ told at (r .end) o o′ p in

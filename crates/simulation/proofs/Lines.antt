@@ -19,6 +19,7 @@ use Rattle.counters.specs.Counted.{noCounters}
 use Rattle.counters.specs.declared.Counters.{Counters}
 use Rattle.causality.specs.Demand3.{start}
 use Rattle.world.specs.Stored.{Holds, Standing}
+use Rattle.simulation.specs.Asked.{WroteWhole}
 use Rattle.simulation.specs.Stands.{Stands, Took}
 use Rattle.simulation.specs.Yard.{AfterLine, Yard, line, lines, maxIssues, opened, refusalRow, totalRow}
 use Rattle.simulation.specs.declared.Taken.{Taken}
@@ -89,7 +90,7 @@ module _ (n cap : ℕ) (s : List ℕ) (from : ℕ) (o₀ : List ℕ) (y : Stored
       ∙ ap (λ (x : List ℕ). x ++ totalRow (r .yard .counters)) rest-test ∙ ap (λ (x : Counters). cond (ltb at end) (refusalRow 17) [] ++ totalRow x) (sym (c ∙ r .stands .counters))
 
   pub running-ends : (t : Counters) → t ≡ y .counters → (m : ℕ) (o′ : List ℕ) → m ≡ pos + length (cond (ltb at end) (refusalRow 17) [] ++ totalRow t) → o′ ≡ put o pos (cond (ltb at end) (refusalRow 17) [] ++ totalRow t)
-      → (m ≡ length (left n s (opened n cap) from)) × (o′ ≡ put o₀ 0 (left n s (opened n cap) from))
+      → WroteWhole (left n s (opened n cap) from) o₀ m o′
   running-ends t c m o′ em eo =
       let k = left-last t c in
       (omega (arith, r .end, ap length k), eo ∙ ap (put o pos) (sym k) ∙ r .bytes)

@@ -10,19 +10,19 @@ use Rattle.wire.proofs.Bytes.{put-append}
 use Rattle.text.specs.Print.{row}
 use Rattle.world.specs.declared.Outcome.{Outcome}
 use Rattle.world.specs.declared.Outcome.the-variants as outcome
-use Rattle.simulation.specs.Asked.{Few, Small}
+use Rattle.simulation.specs.Asked.{Few, Small, Wrote, WroteWhole}
 use Rattle.simulation.specs.Yard.{refusalRow, printedBy}
 
 -- what is written is what is printed
-pub shown : (p q : List ℕ) (at r : ℕ) (o o′ : List ℕ) → p ≡ q → r ≡ at + length q → o′ ≡ put o at q → (r ≡ at + length p) × (o′ ≡ put o at p)
+pub shown : (p q : List ℕ) (at r : ℕ) (o o′ : List ℕ) → p ≡ q → r ≡ at + length q → o′ ≡ put o at q → Wrote p at o r o′
 shown p q at r o o′ e l b = (l ∙ ap (λ (x : List ℕ). at + length x) (sym e), b ∙ ap (put o at) (sym e))
 
 -- the same from the output's front on
-pub shown-first : (p q : List ℕ) (r : ℕ) (o o′ : List ℕ) → p ≡ q → r ≡ length q → o′ ≡ put o 0 q → (r ≡ length p) × (o′ ≡ put o 0 p)
+pub shown-first : (p q : List ℕ) (r : ℕ) (o o′ : List ℕ) → p ≡ q → r ≡ length q → o′ ≡ put o 0 q → WroteWhole p o r o′
 shown-first p q r o o′ e l b = (l ∙ ap length (sym e), b ∙ ap (put o 0) (sym e))
 
 -- one line behind the other
-pub shown-both : (p q : List ℕ) (at r s : ℕ) (o o′ o″ : List ℕ) → r ≡ at + length p → o′ ≡ put o at p → s ≡ r + length q → o″ ≡ put o′ r q → (s ≡ at + length (p ++ q)) × (o″ ≡ put o at (p ++ q))
+pub shown-both : (p q : List ℕ) (at r s : ℕ) (o o′ o″ : List ℕ) → r ≡ at + length p → o′ ≡ put o at p → s ≡ r + length q → o″ ≡ put o′ r q → Wrote (p ++ q) at o s o″
 shown-both p q at r s o o′ o″ l b m d = (omega (arith, length-append p q), rw (d, b, l) (sym (put-append o at p q)))
 
 module _ (x : ℕ) (o : Outcome) where
@@ -47,7 +47,7 @@ module _ (x : ℕ) (o : Outcome) where
   printed-delivered is i k m e = ap (printedBy x is) e
 
   pub shown-delivered : (i k m : ℕ) → o ≡ outcome.Delivered i k m → (is : List ℕ) (at r s : ℕ) (b b′ b″ : List ℕ) → r ≡ at + length (row 68 (x ∷ i ∷ k ∷ [])) → b′ ≡ put b at (row 68 (x ∷ i ∷ k ∷ []))
-      → s ≡ r + length is → b″ ≡ put b′ r is → (s ≡ at + length (printedBy x is o)) × (b″ ≡ put b at (printedBy x is o))
+      → s ≡ r + length is → b″ ≡ put b′ r is → Wrote (printedBy x is o) at b s b″
   shown-delivered i k m e is at r s b b′ b″ l p n q =
       let z = shown-both (row 68 (x ∷ i ∷ k ∷ [])) is at r s b b′ b″ l p n q in
       shown (printedBy x is o) (row 68 (x ∷ i ∷ k ∷ []) ++ is) at s b b″ (printed-delivered is i k m e) (z .0) (z .1)

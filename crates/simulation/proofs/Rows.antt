@@ -14,6 +14,7 @@ use Rattle.text.proofs.Print.{decimal-few, length-row-nil, length-row-cons}
 use Rattle.frame.specs.Header.{header}
 use Rattle.frame.specs.declared.header.Header.{Header}
 use Rattle.world.specs.Stored.{joined}
+use Rattle.simulation.specs.Asked.{Wrote}
 use Rattle.simulation.specs.Yard.{headerRow, issueRows, refusalRow}
 
 -- numbers of two or three digits behind a letter
@@ -73,10 +74,10 @@ header-row m h = refl
 -- the line of a header that is written
 pub header-printed : (m at r k : ℕ) (h : Header) (o p : List ℕ) → k ≡ cond (eqb (h .kind) 1) 83 88 → length (row k (m ∷ h .from ∷ h .to ∷ h .e ∷ [])) ≤ 17
     → r ≡ at + length (row k (m ∷ h .from ∷ h .to ∷ h .e ∷ [])) → p ≡ put o at (row k (m ∷ h .from ∷ h .to ∷ h .e ∷ []))
-    → (r ≤ at + 17) × (r ≡ at + length (headerRow m h)) × (p ≡ put o at (headerRow m h))
+    → (r ≤ at + 17) × Wrote (headerRow m h) at o r p
 header-printed m at r k h o p ek l er ep =
     let e : row k (m ∷ h .from ∷ h .to ∷ h .e ∷ []) ≡ headerRow m h = ap (λ (x : ℕ). row x (m ∷ h .from ∷ h .to ∷ h .e ∷ [])) ek ∙ sym (header-row m h) in
-    (omega arith, er ∙ ap (λ (x : List ℕ). at + length x) e, ep ∙ ap (put o at) e)
+    (omega arith, (er ∙ ap (λ (x : List ℕ). at + length x) e, ep ∙ ap (put o at) e))
 
 -- the part of a log from `at` on
 pub rest-part : (s : List ℕ) (at : ℕ) → take (length s - at) (drop at s) ≡ drop at s
@@ -113,7 +114,7 @@ issuing-goes from at f o₀ o next end i h o′ next′ end′ s l eh en ee eo =
     }
 
 pub issuing-ends : (from at : ℕ) (f : List (List ℕ)) (o₀ o : List ℕ) (next end i : ℕ) → Issuing from at f o₀ o next end i → i ≡ length f
-    → (end ≡ at + length (issueRows (from + 1) (drop from f))) × (o ≡ put o₀ at (issueRows (from + 1) (drop from f)))
+    → Wrote (issueRows (from + 1) (drop from f)) at o₀ end o
 unfolding put
 issuing-ends from at f o₀ o next end i s e =
     let m = rows-none f i (i + 1) e in

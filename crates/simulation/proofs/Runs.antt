@@ -28,7 +28,7 @@ pub stored-start : (n c : ℕ) → startable n (c ∷ c ∷ c ∷ c ∷ []) ≡ 
     → Holds n c maxIssues 0 (start n c) w (replicate i 0) (replicate j 0)
 stored-start n c s w e i j a b =
     subst (λ (x : World). Holds n c maxIssues 0 (start n c) x (replicate i 0) (replicate j 0)) (sym e)
-    (holds-start n c s (replicate i 0) (replicate j 0) (array-zeros i ∙ ap zeros a) (length-replicate j 0 ∙ b))
+    (holds-start n c maxIssues s (replicate i 0) (replicate j 0) (array-zeros i ∙ ap zeros a) (length-replicate j 0 ∙ b))
 
 -- a first line's sizes in range, or not
 pub started-yes : (n c : ℕ) (ls : List (List ℕ)) → startable n (c ∷ c ∷ c ∷ c ∷ []) ≡ true → started (first.Sizes n c) ls ≡ lines n (opened n c) ls

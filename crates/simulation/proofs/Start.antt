@@ -1,4 +1,4 @@
--- The start of a yard is stored. Assumes nothing.
+-- The start of a simulation is stored, with any limit of issues. Assumes nothing.
 use Prim.Native.Nat.{ℕ, zero, suc, _+_, _-_, _*_, _≤_, _<_}
 use mathlib.Core.Bool.{Bool, true, false, cond, _&&_}
 use mathlib.Core.List.{List, [], _∷_}
@@ -20,7 +20,6 @@ use Rattle.node.specs.declared.SetUpAnswer.the-variants.{Refused, Ready}
 use Rattle.causality.specs.Demand3.{start}
 use Rattle.world.proofs.Logs.{joined-none}
 use Rattle.world.specs.Stored.{Holds, capTaken, fresh, isReady, logSize, maxSimulated, noRecord, queueAt, startable}
-use Rattle.simulation.specs.Yard.{maxIssues}
 
 -- a local array of zeros
 pub array-zeros : (k : ℕ) → replicate k 0 ≡ zeros k
@@ -76,9 +75,9 @@ unfolding fresh
 fresh-counts n c = (refl, refl, refl, refl)
 
 -- the world before the first step, in queues of zeros and a log of any bytes
-pub holds-start : (n c : ℕ) → startable n (c ∷ c ∷ c ∷ c ∷ []) ≡ true → (q l : List ℕ) → q ≡ zeros (queueSize * maxSimulated) → length l ≡ logSize maxIssues
-    → Holds n c maxIssues 0 (start n c) (fresh n (c ∷ c ∷ c ∷ c ∷ [])) q l
-holds-start n c s q l z e =
+pub holds-start : (n c limit : ℕ) → startable n (c ∷ c ∷ c ∷ c ∷ []) ≡ true → (q l : List ℕ) → q ≡ zeros (queueSize * maxSimulated) → length l ≡ logSize limit
+    → Holds n c limit 0 (start n c) (fresh n (c ∷ c ∷ c ∷ c ∷ [])) q l
+holds-start n c limit s q l z e =
     let o = opens n c s in
     let f = fresh-counts n c in
     record {

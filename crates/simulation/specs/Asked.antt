@@ -1,11 +1,20 @@
--- What the functions of this crate ask of the numbers and bytes that they are lent.
-use Prim.Native.Nat.{ℕ, _<_, _≤_}
+-- What the functions of this crate ask of the numbers and bytes that they are lent, and what they write.
+use Prim.Native.Nat.{ℕ, _+_, _<_, _≤_}
 use mathlib.Core.List.{List}
 use mathlib.Core.Path.{_≡_}
 use lib.ListN.{length, take}
+use Rattle.wire.specs.Bytes.{put}
 use Rattle.world.specs.Stored.{Begins, joined}
 use Rattle.world.specs.declared.Outcome.{Outcome}
 use Rattle.world.specs.declared.Outcome.the-variants as outcome
+
+-- p is written into the output o from `at` on, which makes it o′, and ends at `end`
+abbrev pub Wrote : (p : List ℕ) (at : ℕ) (o : List ℕ) (end : ℕ) (o′ : List ℕ) → Type 0
+Wrote p at o end o′ = (end ≡ at + length p) × (o′ ≡ put o at p)
+
+-- p is the whole of what is written, k bytes from the front of the output on
+abbrev pub WroteWhole : (p o : List ℕ) (k : ℕ) (o′ : List ℕ) → Type 0
+WroteWhole p o k o′ = (k ≡ length p) × (o′ ≡ put o 0 p)
 
 -- the numbers printed for an outcome have at most two digits, x three
 abbrev pub Small : ℕ → Outcome → Type 0
@@ -23,11 +32,15 @@ Few (outcome.Held count ready) = Unit {0}
 Few (outcome.Nothing tried) = tried < 100
 Few (outcome.Delivered issue tried extras) = extras < 100
 
--- the log l begins with `count` sound frames, fewer than a hundred, of which the first k end at `place`
+-- f are the frames, `count` of them, that the log l begins with, and the first k of them end at `place`
+pub record InLog (k count place : ℕ) (l : List ℕ) (f : List (List ℕ)) : Type 0 where
+  pub begins : Begins f l
+  pub whole : length f ≡ count
+  pub ends : place ≡ length (joined (take k f))
+
+-- there are such frames, fewer than a hundred
 pub record Logged (k count place : ℕ) (l : List ℕ) : Type 0 where
   pub frames : List (List ℕ)
-  pub begins : Begins frames l
-  pub whole : length frames ≡ count
-  pub ends : place ≡ length (joined (take k frames))
+  pub log : InLog k count place l frames
   pub order : k ≤ count
   pub few : count < 100

@@ -17,6 +17,7 @@ ghost use Rattle.causality.specs.Demand3.{start};
 ghost use Rattle.world.specs.Stored.{Holds};
 ghost use Rattle.simulation.specs.Yard.{maxInput, maxIssues, lines, opened, started};
 ghost use Rattle.simulation.specs.Run.{outputSize, afterRun, runCall, Fits};
+ghost use Rattle.simulation.specs.Asked.{WroteWhole};
 ghost use Rattle.simulation.specs.Stands.{Opened};
 
 /// Issues of a yard at most.
@@ -61,7 +62,7 @@ fn run_lines(
     out: &mut [u8],
 ) -> usize
     requires { ⌜ Opened w (now queues) (now log) × (from ≤ length (now input)) × (length (now input) ≤ maxInput) × (outputSize ≤ length (now out)) ⌝ }
-    ensures { λ r. ⌜ (r ≤ outputSize) × ((n cap : ℕ) → Holds n cap maxIssues 0 (start n cap) w (now (queues .entry)) (now (log .entry)) → (r ≡ length (lines n (opened n cap) (split 10 (drop from (now (input .entry)))))) × (now (out .exit) ≡ put (now (out .entry)) 0 (lines n (opened n cap) (split 10 (drop from (now (input .entry))))))) ⌝ }
+    ensures { λ r. ⌜ (r ≤ outputSize) × ((n cap : ℕ) → Holds n cap maxIssues 0 (start n cap) w (now (queues .entry)) (now (log .entry)) → WroteWhole (lines n (opened n cap) (split 10 (drop from (now (input .entry))))) (now (out .entry)) r (now (out .exit))) ⌝ }
 {
     let counters = counters::no_counters();
     let mut yard = Yard { world: w, counters };
@@ -82,7 +83,7 @@ fn run_lines(
 // A yard of these sizes on the lines from `at` on, where they are in range. Gives how many bytes are printed.
 fn run_sizes(n: usize, cap: usize, input: &[u8], at: usize, out: &mut [u8]) -> usize
     requires { ⌜ (at ≤ length (now input)) × (length (now input) ≤ maxInput) × (outputSize ≤ length (now out)) ⌝ }
-    ensures { λ r. ⌜ (r ≤ outputSize) × (r ≡ length (started (first.Sizes n cap) (split 10 (drop at (now (input .entry)))))) × (now (out .exit) ≡ put (now (out .entry)) 0 (started (first.Sizes n cap) (split 10 (drop at (now (input .entry)))))) ⌝ }
+    ensures { λ r. ⌜ (r ≤ outputSize) × WroteWhole (started (first.Sizes n cap) (split 10 (drop at (now (input .entry))))) (now (out .entry)) r (now (out .exit)) ⌝ }
 {
     let caps = [cap; 4];
     if !world::start::startable(n, caps) {

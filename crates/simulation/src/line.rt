@@ -16,7 +16,7 @@ ghost use Rattle.commands.specs.Commands.{command};
 ghost use Rattle.commands.specs.declared.Command.the-variants as command;
 ghost use Rattle.world.specs.Stored.{Begins, joined, Standing, StandingRecords};
 ghost use Rattle.simulation.specs.Yard.{Yard as Lists, maxIssues, issueRows, printedBy, countedBy, line};
-ghost use Rattle.simulation.specs.Asked.{Few, Small, Logged};
+ghost use Rattle.simulation.specs.Asked.{Few, InLog, Logged, Small, Wrote};
 ghost use Rattle.simulation.specs.Stands.{Room, Stands, Took};
 
 // What a step leaves and prints: before it there were `from` issues, of which the last ends at `place`.
@@ -31,7 +31,7 @@ fn conclude(
     at: usize,
 ) -> Taken
     requires { ⌜ Few (s .outcome) × Small x (s .outcome) × Logged from (s .world .issued) place (now log) × (at + 20 + 17 * (s .world .issued - from) ≤ length (now out)) ⌝ }
-    ensures { λ r. ⌜ (r .yard .world ≡ s .world) × (r .yard .counters ≡ countedBy t (s .outcome)) × (r .end ≤ at + 20 + 17 * (s .world .issued - from)) × ((f : List (List ℕ)) → Begins f (now (log .entry)) → length f ≡ s .world .issued → place ≡ length (joined (take from f)) → (r .end ≡ at + length (printedBy x (issueRows (from + 1) (drop from f)) (s .outcome))) × (now (out .exit) ≡ put (now (out .entry)) at (printedBy x (issueRows (from + 1) (drop from f)) (s .outcome)))) ⌝ }
+    ensures { λ r. ⌜ (r .yard .world ≡ s .world) × (r .yard .counters ≡ countedBy t (s .outcome)) × (r .end ≤ at + 20 + 17 * (s .world .issued - from)) × ((f : List (List ℕ)) → InLog from (s .world .issued) place (now (log .entry)) f → Wrote (printedBy x (issueRows (from + 1) (drop from f)) (s .outcome)) at (now (out .entry)) (r .end) (now (out .exit))) ⌝ }
 {
     let outcome = s.outcome;
     let to = s.world.issued;

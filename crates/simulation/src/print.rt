@@ -12,12 +12,12 @@ ghost use Rattle.wire.specs.Bytes.{put};
 ghost use Rattle.text.specs.Print.{row};
 ghost use Rattle.world.specs.Stored.{Begins, joined};
 ghost use Rattle.simulation.specs.Yard.{refusalRow, headerRow, issueRows, printedBy, totalRow};
-ghost use Rattle.simulation.specs.Asked.{Small, Logged};
+ghost use Rattle.simulation.specs.Asked.{InLog, Logged, Small, Wrote};
 
 /// A refusal.
 pub fn put_refusal(out: &mut [u8], at: usize, why: u8) -> usize
     requires { ⌜ at + 6 ≤ length (now out) ⌝ }
-    ensures { λ r. ⌜ (r ≤ at + 6) × (r ≡ at + length (refusalRow why)) × (now (out .exit) ≡ put (now (out .entry)) at (refusalRow why)) ⌝ }
+    ensures { λ r. ⌜ (r ≤ at + 6) × Wrote (refusalRow why) at (now (out .entry)) r (now (out .exit)) ⌝ }
 {
     let values = [why as u32];
     text::put_row(out, at, b'R', &values)
@@ -26,7 +26,7 @@ pub fn put_refusal(out: &mut [u8], at: usize, why: u8) -> usize
 // A letter with two numbers.
 fn put_two(out: &mut [u8], at: usize, letter: u8, a: usize, b: usize) -> usize
     requires { ⌜ (a < 1000) × (b < 100) × (at + 9 ≤ length (now out)) ⌝ }
-    ensures { λ r. ⌜ (r ≡ at + length (row letter (a ∷ b ∷ []))) × (now (out .exit) ≡ put (now (out .entry)) at (row letter (a ∷ b ∷ []))) ⌝ }
+    ensures { λ r. ⌜ Wrote (row letter (a ∷ b ∷ [])) at (now (out .entry)) r (now (out .exit)) ⌝ }
 {
     let values = [a as u32, b as u32];
     text::put_row(out, at, letter, &values)
@@ -35,7 +35,7 @@ fn put_two(out: &mut [u8], at: usize, letter: u8, a: usize, b: usize) -> usize
 // A letter with three numbers.
 fn put_three(out: &mut [u8], at: usize, letter: u8, a: usize, b: usize, c: usize) -> usize
     requires { ⌜ (a < 1000) × (b < 100) × (c < 100) × (at + 12 ≤ length (now out)) ⌝ }
-    ensures { λ r. ⌜ (r ≡ at + length (row letter (a ∷ b ∷ c ∷ []))) × (now (out .exit) ≡ put (now (out .entry)) at (row letter (a ∷ b ∷ c ∷ []))) ⌝ }
+    ensures { λ r. ⌜ Wrote (row letter (a ∷ b ∷ c ∷ [])) at (now (out .entry)) r (now (out .exit)) ⌝ }
 {
     let values = [a as u32, b as u32, c as u32];
     text::put_row(out, at, letter, &values)
@@ -51,7 +51,7 @@ fn kind_letter(kind: u8) -> u8
 /// The frame of a header, with its issue.
 pub fn put_issue(out: &mut [u8], at: usize, issue: usize, h: Header) -> usize
     requires { ⌜ (issue < 100) × (at + 17 ≤ length (now out)) ⌝ }
-    ensures { λ r. ⌜ (r ≤ at + 17) × (r ≡ at + length (headerRow issue h)) × (now (out .exit) ≡ put (now (out .entry)) at (headerRow issue h)) ⌝ }
+    ensures { λ r. ⌜ (r ≤ at + 17) × Wrote (headerRow issue h) at (now (out .entry)) r (now (out .exit)) ⌝ }
 {
     let letter = kind_letter(h.kind);
     let values = [issue as u32, h.from as u32, h.to as u32, h.e as u32];
@@ -68,7 +68,7 @@ pub fn put_issues(
     to: usize,
 ) -> usize
     requires { ⌜ Logged from to place (now log) × (at + 17 * (to - from) ≤ length (now out)) ⌝ }
-    ensures { λ r. ⌜ (r ≤ at + 17 * (to - from)) × ((f : List (List ℕ)) → Begins f (now (log .entry)) → length f ≡ to → place ≡ length (joined (take from f)) → (r ≡ at + length (issueRows (from + 1) (drop from f))) × (now (out .exit) ≡ put (now (out .entry)) at (issueRows (from + 1) (drop from f)))) ⌝ }
+    ensures { λ r. ⌜ (r ≤ at + 17 * (to - from)) × ((f : List (List ℕ)) → InLog from to place (now (log .entry)) f → Wrote (issueRows (from + 1) (drop from f)) at (now (out .entry)) r (now (out .exit))) ⌝ }
 {
     let mut end = at;
     let mut next = place;
@@ -94,7 +94,7 @@ pub fn put_outcome(
     to: usize,
 ) -> usize
     requires { ⌜ Small x o × Logged from to place (now log) × (at + 20 + 17 * (to - from) ≤ length (now out)) ⌝ }
-    ensures { λ r. ⌜ (r ≤ at + 20 + 17 * (to - from)) × ((f : List (List ℕ)) → Begins f (now (log .entry)) → length f ≡ to → place ≡ length (joined (take from f)) → (r ≡ at + length (printedBy x (issueRows (from + 1) (drop from f)) o)) × (now (out .exit) ≡ put (now (out .entry)) at (printedBy x (issueRows (from + 1) (drop from f)) o))) ⌝ }
+    ensures { λ r. ⌜ (r ≤ at + 20 + 17 * (to - from)) × ((f : List (List ℕ)) → InLog from to place (now (log .entry)) f → Wrote (printedBy x (issueRows (from + 1) (drop from f)) o) at (now (out .entry)) r (now (out .exit))) ⌝ }
 {
     match o {
         Outcome::Refused(why) => put_refusal(out, at, why),
@@ -115,7 +115,7 @@ pub fn put_outcome(
 /// The counters.
 pub fn put_total(out: &mut [u8], at: usize, t: Counters) -> usize
     requires { ⌜ at + 57 ≤ length (now out) ⌝ }
-    ensures { λ r. ⌜ (r ≤ at + 57) × (r ≡ at + length (totalRow t)) × (now (out .exit) ≡ put (now (out .entry)) at (totalRow t)) ⌝ }
+    ensures { λ r. ⌜ (r ≤ at + 57) × Wrote (totalRow t) at (now (out .entry)) r (now (out .exit)) ⌝ }
 {
     let values = [t.user, t.extras, t.delivered, t.delays, t.share];
     text::put_row(out, at, b'T', &values)
@@ -124,7 +124,7 @@ pub fn put_total(out: &mut [u8], at: usize, t: Counters) -> usize
 /// The end of the output: a refusal where bytes stand behind the last line feed, and the counters.
 pub fn put_ending(out: &mut [u8], at: usize, rest: bool, t: Counters) -> usize
     requires { ⌜ at + 63 ≤ length (now out) ⌝ }
-    ensures { λ r. ⌜ (r ≤ at + 63) × (r ≡ at + length (cond rest (refusalRow 17) [] ++ totalRow t)) × (now (out .exit) ≡ put (now (out .entry)) at (cond rest (refusalRow 17) [] ++ totalRow t)) ⌝ }
+    ensures { λ r. ⌜ (r ≤ at + 63) × Wrote (cond rest (refusalRow 17) [] ++ totalRow t) at (now (out .entry)) r (now (out .exit)) ⌝ }
 {
     if rest {
         let end = put_refusal(out, at, 17);

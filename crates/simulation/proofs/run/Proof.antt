@@ -20,7 +20,7 @@ same-length c = search needs
 returns-2 : tie.Need-returns-2
 returns-2 c =
     let r = c .before .before .put-refusal .ensures in
-    (run-written _ _ (omega arith) _ (output-long _ (omega arith)) _ _ (r .1 ∙ zero-add _) (r .2), omega (arith, r .0))
+    (run-written _ _ (omega arith) _ (output-long _ (omega arith)) _ _ (r .1 .0 ∙ zero-add _) (r .1 .1), omega (arith, r .0))
 
 find-requires : tie.Need-find-requires
 find-requires c κs = search needs
@@ -35,7 +35,7 @@ returns-3 : tie.Need-returns-3
 returns-3 c =
     let w = c .before .before .before .before .before in
     let r = c .before .before .put-refusal2 .ensures in
-    (run-written _ _ (omega arith) _ (output-none _ (omega arith) _ (w .find .ensures .0) (c .before .before .before .before .if3 .taken)) _ _ (r .1 ∙ zero-add _) (r .2), omega (arith, r .0))
+    (run-written _ _ (omega arith) _ (output-none _ (omega arith) _ (w .find .ensures .0) (c .before .before .before .before .if3 .taken)) _ _ (r .1 .0 ∙ zero-add _) (r .1 .1), omega (arith, r .0))
 
 slice-aggregate-parse-first-line : tie.Need-slice-aggregate-parse-first-line
 slice-aggregate-parse-first-line c = sym (length-take-le _ _ (c .before .before .find .ensures .1))
@@ -66,7 +66,7 @@ returns-4 c =
     let w = c .before .before .before .before .before .before .before .before .before .before in
     let r = c .before .before .run-sizes .ensures in
     let e = sym (c .before .before .before .before .before .before .before .parse-first-line .ensures) ∙ c .before .before .before .before .before .first .given .1 in
-    (run-written _ _ (omega arith) _ (output-first _ (omega arith) _ (w .find .ensures .0) (omega (arith, w .find .ensures .1)) _ e) _ _ (r .1) (r .2), r .0)
+    (run-written _ _ (omega arith) _ (output-first _ (omega arith) _ (w .find .ensures .0) (omega (arith, w .find .ensures .1)) _ e) _ _ (r .1 .0) (r .1 .1), r .0)
 
 same-length-4 : tie.Need-same-length-4
 same-length-4 c = search needs
@@ -76,7 +76,7 @@ returns-5 c =
     let w = c .before .before .before .before .before .before .before .before .before in
     let r = c .before .before .put-refusal3 .ensures in
     let e = sym (c .before .before .before .before .before .before .parse-first-line .ensures) ∙ c .before .before .before .before .enum-told .given .1 in
-    (run-written _ _ (omega arith) _ (output-other _ (omega arith) _ (w .find .ensures .0) (omega (arith, w .find .ensures .1)) e) _ _ (r .1 ∙ zero-add _) (r .2), omega (arith, r .0))
+    (run-written _ _ (omega arith) _ (output-other _ (omega arith) _ (w .find .ensures .0) (omega (arith, w .find .ensures .1)) e) _ _ (r .1 .0 ∙ zero-add _) (r .1 .1), omega (arith, r .0))
 
 pub run-spec : {M : Type 1} → statement M
 run-spec =

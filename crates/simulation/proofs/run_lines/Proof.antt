@@ -106,7 +106,7 @@ returns c =
     let w = c .before .before .before .before .before .before in
     let r = c .before .before .put-ending .ensures in (
       omega (arith, r .0, room-left (c .before .before .before .before .before)),
-      λ n cap h. running-ends n cap _ _ _ _ _ _ _ _ _ (w .loop .end) (w .loop .inv .7 n cap h) (w .loop .inv .1) (omega (arith, w .loop .inv .2)) (w .loop .inv .0) _ refl _ _ (r .1) (r .2),
+      λ n cap h. running-ends n cap _ _ _ _ _ _ _ _ _ (w .loop .end) (w .loop .inv .7 n cap h) (w .loop .inv .1) (omega (arith, w .loop .inv .2)) (w .loop .inv .0) _ refl _ _ (r .1 .0) (r .1 .1),
     )
 
 pub run-lines-spec : {M : Type 1} → statement M

@@ -26,8 +26,8 @@ returns c =
     let r = c .before .before .put-refusal .ensures in
     let b : c .before .before .put-refusal .result ≤ outputSize = omega (arith, r .0) in
     let e = started-no _ _ _ (denied _ _ (c .before .before .before .before .before .startable .ensures) (c .before .before .before .before .if1 .taken)) in
-    let z = shown-first _ _ _ _ _ e (r .1 ∙ zero-add _) (r .2) in
-    (b, z .0, z .1)
+    let z = shown-first _ _ _ _ _ e (r .1 .0 ∙ zero-add _) (r .1 .1) in
+    (b, z)
 
 fresh-requires : tie.Need-fresh-requires
 fresh-requires c κs = search needs
@@ -54,7 +54,7 @@ returns-2 c =
     let r = c .before .before .before .before .run-lines .ensures in
     let d = r .1 _ _ (stored-start _ _ s _ (c .before .before .before .before .before .before .before .before .fresh .ensures) 51328 53376 refl refl) in
     let z = shown-first _ _ _ _ _ (started-yes _ _ _ s) (d .0) (d .1) in
-    (r .0, z .0, z .1)
+    (r .0, z)
 
 pub run-sizes-spec : {M : Type 1} → statement M
 run-sizes-spec =

@@ -100,7 +100,7 @@ returns-4 c =
     let a = w .before .before .before .before .before .before .before in
     let e = sym (w .before .before .parse-command .ensures) ∙ w .enum-told .given .1 in
     let r = c .before .before .put-refusal .ensures in
-    (omega (arith, r .1, refusal-17), λ n cap k z short st. took-as n cap k z _ _ e _ _ _ _ _ _ (took-other n cap k z _ _ _ st _ _ _ _ (r .1) (r .2)))
+    (omega (arith, r .1 .0, refusal-17), λ n cap k z short st. took-as n cap k z _ _ e _ _ _ _ _ _ (took-other n cap k z _ _ _ st _ _ _ _ (r .1 .0) (r .1 .1)))
 
 pub take-spec : {M : Type 1} → statement M
 take-spec =

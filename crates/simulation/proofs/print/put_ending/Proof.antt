@@ -18,8 +18,8 @@ returns : tie.Need-returns
 returns c =
     let r = c .before .before .before .before .before .before .put-refusal .ensures in
     let t = c .before .before .put-total .ensures in
-    let z = shown-both _ _ _ _ _ _ _ _ (r .1) (r .2) (t .1) (t .2) in
-    rw (c .before .before .before .before .before .before .before .before .if1 .taken) (omega (arith, r .0, t .0), z .0, z .1)
+    let z = shown-both _ _ _ _ _ _ _ _ (r .1 .0) (r .1 .1) (t .1 .0) (t .1 .1) in
+    rw (c .before .before .before .before .before .before .before .before .if1 .taken) (omega (arith, r .0, t .0), z)
 
 put-total-requires-2 : tie.Need-put-total-requires-2
 put-total-requires-2 c κs = search needs
@@ -30,7 +30,7 @@ same-length-2 c = search needs
 returns-2 : tie.Need-returns-2
 returns-2 c =
     let t = c .before .before .put-total2 .ensures in
-    rw (c .before .before .before .before .if1 .left) (omega (arith, t .0), t .1, t .2)
+    rw (c .before .before .before .before .if1 .left) (omega (arith, t .0), t .1)
 
 pub put-ending-spec : {M : Type 1} → statement M
 put-ending-spec =

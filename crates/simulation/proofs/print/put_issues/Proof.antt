@@ -4,10 +4,10 @@ use mathlib.Core.List.{List}
 use mathlib.Core.Path.{_≡_, refl, ap, _∙_}
 use native.Mathlib.Omega.{arith}
 use borrow.Author.Needs.{needs}
-use lib.ListN.{length, take}
+use lib.ListN.{length}
 use Rattle.frame.specs.Header.{header}
 use Rattle.world.proofs.Logs.{log-room, log-part}
-use Rattle.world.specs.Stored.{Begins, joined}
+use Rattle.simulation.specs.Asked.{InLog}
 use Rattle.simulation.proofs.Rows.{Issuing, issuing-goes, issuing-ends, rest-part}
 use Rattle.simulation.proofs.print.put_issues.Statement.{statement}
 use Rattle.simulation.proofs.print.put_issues.Tie as tie
@@ -15,20 +15,20 @@ use Rattle.simulation.proofs.print.put_issues.Tie as tie
 abbrev Inv-loop : tie.InvT-loop
 Inv-loop out₀ at log place from to end₀ next₀ i₀ out end next i =
     (from ≤ i) × (i ≤ to) × (length out ≡ length out₀) × (end ≤ at + 17 * (i - from))
-    × ((f : List (List ℕ)) → Begins f log → length f ≡ to → place ≡ length (joined (take from f)) → Issuing from at f out₀ out next end i)
+    × ((f : List (List ℕ)) → InLog from to place log f → Issuing from at f out₀ out next end i)
 
 abbrev μ-loop : tie.MeasureT-loop
 μ-loop out₀ at log place from to end₀ next₀ i₀ out end next i = to - i
 
 loop-holds : tie.Need-loop-holds Inv-loop μ-loop
-loop-holds c = (search needs, c .before .before .pre .0 .order, refl, omega arith, λ f b w e. record { here = e; room = refl; bytes = refl })
+loop-holds c = (search needs, c .before .before .pre .0 .order, refl, omega arith, λ f g. record { here = g .ends; room = refl; bytes = refl })
 
 -- the next frame's header is in the log
 inside : (c : tie.In-loop Inv-loop μ-loop) → c .before .loop .next + 8 ≤ length (c .before .before .before .before .args .log .now)
 inside c =
     let w = c .before in
     let p = w .before .before .before .pre .0 in
-    log-room (p .frames) _ (w .loop .i) (w .loop .next) (p .begins) (omega (arith, p .whole, c .loop-test .taken)) (w .loop .inv .4 (p .frames) (p .begins) (p .whole) (p .ends) .here)
+    log-room (p .frames) _ (w .loop .i) (w .loop .next) (p .log .begins) (omega (arith, p .log .whole, c .loop-test .taken)) (w .loop .inv .4 (p .frames) (p .log) .here)
 
 sub-read : tie.Need-sub-read Inv-loop μ-loop
 sub-read c = omega (arith, inside c)
@@ -69,10 +69,10 @@ loop-again c =
       omega arith,
       c .before .before .before .put-issue .kept .0 ∙ w .loop .inv .2,
       omega (arith, w .loop .inv .3, r .0),
-      λ f b m e.
-          let s = w .loop .inv .4 f b m e in
-          let part = log-part f _ (w .loop .i) (w .loop .next) (c .frame-end .result) b (omega arith) (s .here) (c .frame-end .ensures) in
-          issuing-goes _ _ f _ _ _ _ (w .loop .i) _ _ _ _ s (omega arith) (h ∙ ap header (rest-part _ (w .loop .next)) ∙ part .head) (part .next) (r .1) (r .2),
+      λ f g.
+          let s = w .loop .inv .4 f g in
+          let part = log-part f _ (w .loop .i) (w .loop .next) (c .frame-end .result) (g .begins) (omega (arith, g .whole)) (s .here) (c .frame-end .ensures) in
+          issuing-goes _ _ f _ _ _ _ (w .loop .i) _ _ _ _ s (omega (arith, g .whole)) (h ∙ ap header (rest-part _ (w .loop .next)) ∙ part .head) (part .next) (r .1 .0) (r .1 .1),
     )
 
 same-length : tie.Need-same-length Inv-loop μ-loop
@@ -81,7 +81,7 @@ same-length c = c .before .loop .inv .2
 returns : tie.Need-returns Inv-loop μ-loop
 returns c =
     let w = c .before in
-    (omega (arith, w .loop .inv .1, w .loop .inv .3), λ f b m e. issuing-ends _ _ f _ _ _ _ (w .loop .i) (w .loop .inv .4 f b m e) (omega arith))
+    (omega (arith, w .loop .inv .1, w .loop .inv .3), λ f g. issuing-ends _ _ f _ _ _ _ (w .loop .i) (w .loop .inv .4 f g) (omega (arith, g .whole)))
 
 pub put-issues-spec : {M : Type 1} → statement M
 put-issues-spec =

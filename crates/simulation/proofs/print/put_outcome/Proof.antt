@@ -64,7 +64,7 @@ returns c =
     let w = c .before .before .before .before .before in
     let a = w .before .before .before .before in
     let r = c .before .before .put-refusal .ensures in
-    (omega (arith, r .0), λ f b m e. shown _ _ _ _ _ _ (printed-refused _ _ _ _ (w .o .given .1)) (r .1) (r .2))
+    (omega (arith, r .0), λ f g. shown _ _ _ _ _ _ (printed-refused _ _ _ _ (w .o .given .1)) (r .1 .0) (r .1 .1))
 
 same-length-2 : tie.Need-same-length-2
 same-length-2 c = search needs
@@ -73,7 +73,7 @@ returns-2 : tie.Need-returns-2
 returns-2 c =
     let w = c .before .before .before .before in
     let r = c .before .before .put-issues .ensures in
-    (omega (arith, r .0), λ f b m e. let d = r .1 f b m e in shown _ _ _ _ _ _ (printed-sent _ _ _ _ (w .enum-told .given .1)) (d .0) (d .1))
+    (omega (arith, r .0), λ f g. let d = r .1 f g in shown _ _ _ _ _ _ (printed-sent _ _ _ _ (w .enum-told .given .1)) (d .0) (d .1))
 
 same-length-3 : tie.Need-same-length-3
 same-length-3 c = search needs
@@ -84,7 +84,7 @@ returns-3 c =
     let a = w .before .before .before .before in
     let r = c .before .before .put-two .ensures in
     let q = small-held _ _ (a .pre .0) _ _ (w .o2 .given .1) in
-    (omega (arith, r .0, two-numbers 65 (a .args .x) (w .o2 .given .0 .0) (q .0) (q .1)), λ f b m e. shown _ _ _ _ _ _ (printed-held _ _ _ _ _ (w .o2 .given .1)) (r .0) (r .1))
+    (omega (arith, r .0, two-numbers 65 (a .args .x) (w .o2 .given .0 .0) (q .0) (q .1)), λ f g. shown _ _ _ _ _ _ (printed-held _ _ _ _ _ (w .o2 .given .1)) (r .0) (r .1))
 
 same-length-4 : tie.Need-same-length-4
 same-length-4 c = search needs
@@ -95,7 +95,7 @@ returns-4 c =
     let a = w .before .before .before .before in
     let r = c .before .before .put-two2 .ensures in
     let q = small-nothing _ _ (a .pre .0) _ (w .o3 .given .1) in
-    (omega (arith, r .0, two-numbers 78 (a .args .x) (w .o3 .given .0 .0) (q .0) (q .1)), λ f b m e. shown _ _ _ _ _ _ (printed-nothing _ _ _ _ (w .o3 .given .1)) (r .0) (r .1))
+    (omega (arith, r .0, two-numbers 78 (a .args .x) (w .o3 .given .0 .0) (q .0) (q .1)), λ f g. shown _ _ _ _ _ _ (printed-nothing _ _ _ _ (w .o3 .given .1)) (r .0) (r .1))
 
 same-length-5 : tie.Need-same-length-5
 same-length-5 c = search needs
@@ -108,7 +108,7 @@ returns-5 c =
     let r = c .before .before .put-issues2 .ensures in
     let q = small-delivered _ _ (a .pre .0) _ _ _ (w .o4 .given .1) in (
       omega (arith, t .0, r .0, three-numbers 68 (a .args .x) (w .o4 .given .0 .0) (w .o4 .given .0 .1 .0) (q .0) (q .1) (q .2)),
-      λ f b m e. let d = r .1 f b m e in shown-delivered _ _ _ _ _ (w .o4 .given .1) _ _ _ _ _ _ _ (t .0) (t .1) (d .0) (d .1),
+      λ f g. let d = r .1 f g in shown-delivered _ _ _ _ _ (w .o4 .given .1) _ _ _ _ _ _ _ (t .0) (t .1) (d .0) (d .1),
     )
 
 pub put-outcome-spec : {M : Type 1} → statement M

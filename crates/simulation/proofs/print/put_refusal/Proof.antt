@@ -17,7 +17,7 @@ same-length c = search needs
 returns : tie.Need-returns
 returns c =
     let r = c .before .before .put-row .ensures in
-    (omega (arith, r .0, one-number 82 (c .before .before .before .before .before .before .args .why) (omega arith)), r .0, r .1)
+    (omega (arith, r .0, one-number 82 (c .before .before .before .before .before .before .args .why) (omega arith)), r)
 
 pub put-refusal-spec : {M : Type 1} → statement M
 put-refusal-spec =

@@ -25,7 +25,7 @@ same-length c = search needs
 returns : tie.Need-returns
 returns c =
     let r = c .before .before .put-row .ensures in
-    (omega (arith, r .0, most (c .before .before .before .before .before)), r .0, r .1)
+    (omega (arith, r .0, most (c .before .before .before .before .before)), r)
 
 pub put-total-spec : {M : Type 1} → statement M
 put-total-spec = tie.close (tie.spec slice-aggregate-put-row put-row-requires same-length returns)
