@@ -6,6 +6,9 @@ use crate::{Record, Refusal};
 /// Bytes of a shelf.
 pub const LENGTH: usize = Record::HELD * Record::FRAME;
 
+/// A shelf that holds nothing.
+static EMPTY: [u8; LENGTH] = [0; LENGTH];
+
 /// The places of a shelf in their order.
 fn places(shelf: &[u8]) -> impl Iterator<Item = &[u8]> {
     shelf.chunks_exact(Record::FRAME)
@@ -38,9 +41,9 @@ fn frame_of<'a>(place: &'a [u8], record: &Record) -> Option<Frame<'a>> {
     Frame::check(frame, record).ok().filter(|_| is_zero(rest))
 }
 
-/// Whether all bytes are zero.
+/// Whether all bytes, of a part of a shelf, are zero.
 fn is_zero(bytes: &[u8]) -> bool {
-    bytes.iter().all(|byte| *byte == 0)
+    EMPTY.starts_with(bytes)
 }
 
 /// Fills the first free place with the frame, then zeros to the place's end.

@@ -182,7 +182,8 @@ impl History {
 
     /// The earliest undelivered frame of a node, in issue order.
     fn earliest(&self, node: usize) -> Option<usize> {
-        (0..self.issues.len()).find(|issue| self.issues[*issue].delivered.is_none() && self.list.frame(*issue).to() == node)
+        (0..self.issues.len())
+            .find(|issue| self.issues[*issue].delivered.is_none() && self.list.frame(*issue).to() == node)
     }
 
     /// At each node the earliest undelivered frame, once offered, lets a deliver go on.

@@ -43,7 +43,10 @@ fn all_calls(record: Record) -> u8 {
 #[test]
 fn check_1() {
     let number = |me, n, cap| set_up(me, n, cap).0.err().unwrap_or(0);
-    assert_eq!([number(0, 0, 0), number(0, 1, 1), number(0, 2, 2), number(0, 12, 12), number(0, 13, 13)], [1, 1, 0, 0, 1]);
+    assert_eq!(
+        [number(0, 0, 0), number(0, 1, 1), number(0, 2, 2), number(0, 12, 12), number(0, 13, 13)],
+        [1, 1, 0, 0, 1]
+    );
     assert_eq!([number(2, 3, 5), number(3, 3, 5), number(11, 12, 144), number(12, 12, 144)], [0, 1, 0, 1]);
     assert_eq!([number(0, 3, 2), number(0, 3, 3), number(0, 3, 9), number(0, 3, 10)], [1, 0, 0, 1]);
     assert_eq!([number(0, 12, 11), number(0, 12, 144), number(0, 12, 145)], [1, 0, 1]);
@@ -58,7 +61,9 @@ fn check_2_ranges() {
     for (me, n, cap) in [(0, 2, 2), (1, 2, 4), (11, 12, 144), (0, 12, 12)] {
         assert_eq!(with_ranges(me, n, cap), 3);
     }
-    for (me, n, cap) in [(0, 0, 0), (0, 1, 1), (0, 13, 13), (2, 2, 2), (0, 2, 1), (0, 2, 5), (12, 12, 20), (255, 255, 255)] {
+    for (me, n, cap) in
+        [(0, 0, 0), (0, 1, 1), (0, 13, 13), (2, 2, 2), (0, 2, 1), (0, 2, 5), (12, 12, 20), (255, 255, 255)]
+    {
         assert_eq!(with_ranges(me, n, cap), 2);
     }
 }
@@ -333,4 +338,34 @@ fn sixteen_waiting_frames_are_none() {
     let (record, mut shelf) = holding(sample(), &waiting(16));
     let (answer, after) = deliver(record, &mut shelf, &mut [0; 2048], &mut [0; 64]);
     assert_eq!((answer, after), (DeliverAnswer::None { looked: 16 }, record));
+}
+
+#[test]
+fn of_two_checks_met_the_lower_is_given() {
+    let shelf = empty_shelf();
+    let limit = with(1, 3, 5, &[(1, 2, TOP)], &[]);
+    let broken = Record { held: 17, ..limit };
+    assert_eq!([send_number(broken, 1, &[], 0), send_number(limit, 1, &[], 0)], [2, 3]);
+    assert_eq!([send_number(limit, 1, &[0; 65], 2048), send_number(sample(), 1, &[0; 65], 2048)], [5, 6]);
+    let torn = Record { held: 1, ..limit };
+    assert_eq!([deliver_number(broken, &[], 0, 0), deliver_number(torn, &shelf, 0, 0)], [2, 3]);
+    assert_eq!([deliver_number(torn, &shelf, 2048, 64), deliver_number(limit, &shelf, 2048, 64)], [4, 5]);
+    assert_eq!([offer_number(broken, &[], &[]), offer_number(torn, &[], &[])], [2, 3]);
+    assert_eq!([offer_number(torn, &[], &shelf), offer_number(sample(), &[], &shelf)], [4, 8]);
+}
+
+#[test]
+fn of_two_checks_met_by_a_frame_the_lower_is_given() {
+    let mut eight = draft(3, 0, 1, 4, 5, &[], &[]).bytes();
+    eight[7] = 1;
+    assert_eq!(offer_number(sample(), &eight, &empty_shelf()), 8);
+    assert_eq!(offered(&draft(3, 0, 1, 4, 5, &[], &[])), 9);
+    assert_eq!(offered(&draft(USER, 0, 1, 4, 5, &[(2, 2, 0)], &[])), 10);
+    assert_eq!(offered(&draft(USER, 0, 2, 3, 5, &[(2, 2, 0)], &[])), 11);
+    assert_eq!(offered(&draft(USER, 0, 2, 3, 5, &[(1, 2, 9)], &[])), 12);
+    assert_eq!(offered(&draft(USER, 0, 1, 3, 5, &[(1, 2, 9)], &[])), 13);
+    assert_eq!(offered(&draft(USER, 0, 1, 3, 5, &[(1, 2, 1)], &[])), 14);
+    let (record, shelf) = holding(sample(), &waiting(16));
+    assert_eq!(offer_number(record, &draft(USER, 0, 1, 3, 5, &[(0, 1, 2)], &[]).bytes(), &shelf), 14);
+    assert_eq!(offer_number(record, &waiting(1)[0], &shelf), 15);
 }

@@ -16,16 +16,21 @@ fn line(text: &str) -> String {
 #[test]
 fn the_example() {
     let input = "3 3\nS 0 2\nS 0 1\nA 2\nD 1\nS 1 2\nA 3\nD 2\nA 1\nD 2\nD 2\n";
-    let output = "S 1 0 2 0\nS 2 0 1 1\nA 2 1\nD 1 2 1\nS 3 1 2 1\nA 3 1\nN 2 1\nA 1 2\nD 2 1 2\nD 2 3 1\nT 3 0 3 1 0\n";
+    let output =
+        "S 1 0 2 0\nS 2 0 1 1\nA 2 1\nD 1 2 1\nS 3 1 2 1\nA 3 1\nN 2 1\nA 1 2\nD 2 1 2\nD 2 3 1\nT 3 0 3 1 0\n";
     assert_eq!(printed(input), output);
 }
 
 #[test]
 fn the_first_line() {
-    for input in ["", "3 3", "\n", "3\n", "3 3 3\n", "3  3\n", " 3 3\n", "3 3 \n", "3 3\r\n", "3\t3\n", "x 3\n", "3 0003\n"] {
+    for input in
+        ["", "3 3", "\n", "3\n", "3 3 3\n", "3  3\n", " 3 3\n", "3 3 \n", "3 3\r\n", "3\t3\n", "x 3\n", "3 0003\n"]
+    {
         assert_eq!(printed(input), "R 17\n", "{input:?}");
     }
-    for input in ["1 1\n", "5 5\n", "3 2\n", "3 10\n", "2 5\n", "258 3\n", "3 259\n", "0 0\n", "4 17\n", "12 12\nS 0 1\n"] {
+    for input in
+        ["1 1\n", "5 5\n", "3 2\n", "3 10\n", "2 5\n", "258 3\n", "3 259\n", "0 0\n", "4 17\n", "12 12\nS 0 1\n"]
+    {
         assert_eq!(printed(input), "R 17\n", "{input:?}");
     }
     for input in ["3 3\n", "003 09\n", "2 2\n", "2 4\n", "4 4\n", "4 16\n", "3 9\n"] {
@@ -54,8 +59,9 @@ fn bytes_after_the_last_line_feed() {
 #[test]
 fn other_lines() {
     let lines = [
-        "", " ", "S", "S 0", "S 0 1 2", "S  0 1", " S 0 1", "S 0 1 ", "S 0 1\r", "S\t0 1", "S 0 0001", "s 0 1", "S -1 1",
-        "S 0 +1", "SS 0 1", "S0 1", "D", "D 0 1", "D 0000", "A", "A 1 1", "B 1", "A 1.", "D x", "\u{e9} 1", "S 0 ", "3 3",
+        "", " ", "S", "S 0", "S 0 1 2", "S  0 1", " S 0 1", "S 0 1 ", "S 0 1\r", "S\t0 1", "S 0 0001", "s 0 1",
+        "S -1 1", "S 0 +1", "SS 0 1", "S0 1", "D", "D 0 1", "D 0000", "A", "A 1 1", "B 1", "A 1.", "D x", "\u{e9} 1",
+        "S 0 ", "3 3",
     ];
     for text in lines {
         assert_eq!(line(text), "R 17\n", "{text:?}");
