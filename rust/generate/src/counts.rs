@@ -1,13 +1,14 @@
 //! How often each answer of each call is met.
 
-use crate::case::{Answer, Case, Outcome};
+use crate::case::{Answer, Call, Case, Outcome};
 use reference::{DeliverAnswer, OfferAnswer, SendAnswer};
 use std::collections::BTreeMap;
 
-/// Counts by call and by what was answered.
+/// Counts by call and by what was answered, and the most bytes that a call issued or held.
 #[derive(Clone, Debug, Default)]
 pub struct Counts {
     counts: BTreeMap<(&'static str, String), usize>,
+    largest: BTreeMap<&'static str, usize>,
 }
 
 impl Counts {
@@ -16,6 +17,13 @@ impl Counts {
         for label in labels(&outcome.answer) {
             *self.counts.entry((case.call.name(), label)).or_default() += 1;
         }
+        let largest = self.largest.entry(case.call.name()).or_default();
+        *largest = bytes_of(case, &outcome.answer).max(*largest);
+    }
+
+    /// The most bytes that a send or a deliver issued, or that an offered and held frame had.
+    pub fn largest(&self, call: &'static str) -> usize {
+        self.largest.get(call).copied().unwrap_or(0)
     }
 
     /// How often a call gave a refusal.
@@ -23,9 +31,22 @@ impl Counts {
         self.counts.get(&(call, format!("{number:>2}"))).copied().unwrap_or(0)
     }
 
-    /// One line for each call and label.
+    /// One line for each call and label, then the most bytes of each call.
     pub fn table(&self) -> String {
-        self.counts.iter().map(|((call, label), count)| format!("{call:8} {label:24} {count:>8}\n")).collect()
+        let line = |call: &str, label: &str, count: usize| format!("{call:8} {label:24} {count:>8}\n");
+        let counts = self.counts.iter().map(|((call, label), count)| line(call, label, *count));
+        let largest = self.largest.iter().filter(|(_, bytes)| **bytes > 0);
+        counts.chain(largest.map(|(call, bytes)| line(call, "most bytes", *bytes))).collect()
+    }
+}
+
+/// The bytes that a step issued, or that an offered and held frame has.
+fn bytes_of(case: &Case, answer: &Answer) -> usize {
+    match (answer, &case.call) {
+        (Answer::Send(SendAnswer::Sent { bytes, .. }), _) => *bytes,
+        (Answer::Deliver(DeliverAnswer::Delivered(delivery)), _) => delivery.bytes,
+        (Answer::Offer(OfferAnswer::Held { .. }), Call::Offer { frame }) => frame.len(),
+        _ => 0,
     }
 }
 

@@ -2,7 +2,7 @@
 
 use crate::case::{Buffers, Call, Case};
 use crate::records::{any_cap, any_n};
-use crate::states::{any_state, reach_limit, Runner, State};
+use crate::states::{any_state, parted_state, reach_limit, Runner, State};
 use crate::{frames, records, shelves, yards};
 use reference::node::OUTPUT;
 use reference::random::Random;
@@ -37,7 +37,11 @@ impl Generator {
     /// A state from a list or of any values, at times at the limit of check 5.
     fn state(&mut self, limit: usize) -> State {
         let random = &mut self.random;
-        let mut state = if random.once_in(2) { self.runner.next(random) } else { any_state(random) };
+        let mut state = match random.below(16) {
+            0..=7 => self.runner.next(random),
+            8 => parted_state(random),
+            _ => any_state(random),
+        };
         if random.once_in(limit) {
             reach_limit(random, &mut state);
         }

@@ -55,13 +55,20 @@ fn fill(random: &mut Random, record: &mut Record, count: usize) {
     }
 }
 
-/// A record that keeps the rules, holds nothing, and is below the limit of check 5.
-pub fn any_record(random: &mut Random) -> Record {
-    let n = any_n(random);
-    let me = random.below(n);
+/// A cap, and how many entries are to stand, at times all that may.
+fn any_standing(random: &mut Random, n: usize) -> (usize, usize) {
     let cap = any_cap(random, n);
-    let mut record = Record { me: me as u8, n: n as u8, cap: cap as u8, ..Record::ZERO };
     let standing = if random.once_in(3) { cap } else { random.within(0, cap) };
+    (cap, standing)
+}
+
+/// A record that keeps the rules, holds nothing, and is below the limit of check 5, at times with the fullest M.
+pub fn any_record(random: &mut Random) -> Record {
+    let dense = random.once_in(6);
+    let n = if dense { 12 } else { any_n(random) };
+    let (cap, standing) = if dense { random.pick(&[(110, 110), (121, 121)]) } else { any_standing(random, n) };
+    let me = random.below(n);
+    let mut record = Record { me: me as u8, n: n as u8, cap: cap as u8, ..Record::ZERO };
     fill(random, &mut record, standing);
     for x in (0..n).filter(|x| *x != me) {
         record.deliv[x] = if random.once_in(3) { 0 } else { any_count(random) };

@@ -1,10 +1,16 @@
 //! States of a node: a sound record and shelf, with frames to offer, from running lists or of any values.
 
-use crate::records::{any_cap, any_n, any_record, TOP};
+use crate::frames;
+use crate::records::{any_cap, any_count, any_n, any_record, TOP};
 use crate::shelves::{any_shelf, frame_at};
+use reference::draft::Draft;
+use reference::frame::USER;
 use reference::list::List;
 use reference::random::Random;
-use reference::Record;
+use reference::{shelf, Record};
+
+/// A row and a column of M.
+type Place = (usize, usize);
 
 /// A record, its shelf, and a frame issued earlier in the list if there is a list.
 #[derive(Clone, Debug)]
@@ -52,7 +58,7 @@ impl Runner {
         match random.below(3) {
             0 => {
                 let to = random.below(self.list.n());
-                let body = crate::frames::any_body(random);
+                let body = frames::any_body(random);
                 self.list.send(node, to, &body);
             }
             1 => self.offer(random),
@@ -84,6 +90,43 @@ pub fn any_state(random: &mut Random) -> State {
     let wanted = random.pick(&[0, 0, 1, 2, 3, 8, 14, 15, 15, 16]);
     let shelf = any_shelf(random, &mut record, wanted);
     State { record, shelf, frame: None }
+}
+
+/// A state whose held frame carries as much as it can that the record does not know, so that its delivery trims most.
+pub fn parted_state(random: &mut Random) -> State {
+    let n = if random.once_in(2) { 12 } else { random.within(3, 12) };
+    let me = random.below(n);
+    let from = (me + 1 + random.below(n - 1)) % n;
+    let (mut known, mut carried) = parted_places(random, n, me, from);
+    let most = known.len().max(carried.len()).max(n);
+    let cap = if random.once_in(2) { most } else { random.within(n, most) };
+    known.truncate(cap);
+    carried.truncate(cap);
+    let mut record = Record { me: me as u8, n: n as u8, cap: cap as u8, ..Record::ZERO };
+    known.iter().for_each(|(row, column)| *record.entry_mut(*row, *column) = any_count(random));
+    let mut draft = Draft { from: from as u8, ..frames::sound(random, &record, true) };
+    (draft.kind, draft.entries) = (USER, Vec::new());
+    carried.iter().for_each(|(row, column)| draft.set(*row, *column, any_count(random)));
+    let frame = draft.bytes();
+    let mut shelf = vec![0; shelf::LENGTH];
+    shelf[..frame.len()].copy_from_slice(&frame);
+    record.held = 1;
+    State { record, shelf, frame: Some(frame) }
+}
+
+/// Places in row and column: those of half of the other nodes and of column from, and those of the other half and of row from.
+fn parted_places(random: &mut Random, n: usize, me: usize, from: usize) -> (Vec<Place>, Vec<Place>) {
+    let others: Vec<usize> = (0..n).filter(|x| *x != me && *x != from).collect();
+    let start = random.below(others.len());
+    let half = |x: usize| (x + start) % others.len() < others.len() / 2;
+    let (mut known, mut carried) = (Vec::new(), Vec::new());
+    for (index, row) in others.iter().enumerate() {
+        let places = others.iter().filter(|column| *column != row).map(|column| (*row, *column));
+        if half(index) { &mut known } else { &mut carried }.extend(places);
+        known.push((*row, from));
+        carried.push((from, *row));
+    }
+    (known, carried)
 }
 
 /// Raises a count of row me or of DELIV to the limit of check 5, in one that leaves record and shelf sound.
