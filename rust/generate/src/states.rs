@@ -114,7 +114,7 @@ pub fn parted_state(random: &mut Random) -> State {
     State { record, shelf, frame: Some(frame) }
 }
 
-/// Places in row and column: those of half of the other nodes and of column from, and those of the other half and of row from.
+/// Places of half of the other nodes and of column from, and places of the other half and of row from.
 fn parted_places(random: &mut Random, n: usize, me: usize, from: usize) -> (Vec<Place>, Vec<Place>) {
     let others: Vec<usize> = (0..n).filter(|x| *x != me && *x != from).collect();
     let start = random.below(others.len());

@@ -1,4 +1,4 @@
-//! Helpers that the tests share.
+//! What the tests share.
 #![allow(dead_code)]
 
 use reference::draft::Draft;
