@@ -2,7 +2,7 @@
 use Prim.Native.Nat.{ℕ}
 use mathlib.Core.Bool.{Bool, cond, false, true}
 use mathlib.Core.List.{List, [], _∷_}
-use mathlib.Core.Path.{_∙_, _≡_, ap, ap₂, refl, sym}
+use mathlib.Core.Path.{_∙_, _≡_, ap, ap₂, refl, subst, sym}
 use mir.Val.{boolByte}
 use Rattle.node.specs.declared.Node.{Node as Record}
 use Rattle.node.specs.declared.SetUp.{SetUp}
@@ -20,6 +20,7 @@ use Rattle.node.specs.declared.DeliverAnswer.the-variants as deliverAnswer
 use Rattle.node.specs.Answers.{AfterSend, AfterOffer, AfterDeliver, afterSend, afterOffer, afterDeliver, setUpNumber}
 use Rattle.node.specs.SetUp.{setUp}
 use Rattle.node.specs.Calls.{sendCall, offerCall, deliverCall}
+use Rattle.node_c.proofs.Small.{DeliverSmall, OfferSmall, SendSmall, deliver-small, offer-small, send-small}
 use Rattle.node_c.specs.Exports.{deliverLeft, deliverTold, deliveryValues, exportedDeliver, exportedOffer, exportedSend, exportedSetUp, offerLeft, offerTold, sendLeft, sendTold, setUpLeft}
 use Rattle.node_c.specs.Image.{image, recordIn}
 
@@ -66,3 +67,13 @@ pub deliver-stored : (i queue out body values : List ℕ) (r : Record) (s : Deli
     → (i₁ : List ℕ) → i₁ ≡ image (s .node) → deliverLeft 0 i₁ queue₁ out₁ body₁ (deliveryValues d) ≡ exportedDeliver i queue out body values
 deliver-stored i queue out body values r s queue₁ out₁ body₁ p e d t i₁ q =
     ap (λ (x : List ℕ). deliverLeft 0 x queue₁ out₁ body₁ (deliveryValues d)) q ∙ deliver-told i queue out body values r s queue₁ out₁ body₁ p e (deliverAnswer.Frame d) t
+
+-- the values of an accepted call fit the lent numbers
+pub send-fits : (to : ℕ) (body out : List ℕ) (r : Record) (s : Sent) (out₁ : List ℕ) → afterSend s out₁ ≡ sendCall r to body out → (a : SendAnswer) → s .answer ≡ a → SendSmall a
+send-fits to body out r s out₁ e a t = subst SendSmall (ap (λ (c : AfterSend). c .result .answer) (sym e) ∙ t) (send-small r to body out)
+
+pub offer-fits : (frame queue : List ℕ) (r : Record) (s : Offered) (queue₁ : List ℕ) → afterOffer s queue₁ ≡ offerCall r frame queue → (a : OfferAnswer) → s .answer ≡ a → OfferSmall a
+offer-fits frame queue r s queue₁ e a t = subst OfferSmall (ap (λ (c : AfterOffer). c .result .answer) (sym e) ∙ t) (offer-small r frame queue)
+
+pub deliver-fits : (queue out body : List ℕ) (r : Record) (s : Delivery) (queue₁ out₁ body₁ : List ℕ) → afterDeliver s queue₁ out₁ body₁ ≡ deliverCall r queue out body → (a : DeliverAnswer) → s .answer ≡ a → DeliverSmall a
+deliver-fits queue out body r s queue₁ out₁ body₁ e a t = subst DeliverSmall (ap (λ (c : AfterDeliver). c .result .answer) (sym e) ∙ t) (deliver-small r queue out body)

@@ -11,7 +11,7 @@ ghost use Rattle.node_c.specs.Exports.{setUpLeft, exportedSetUp, sendLef
 
 /// Set-up: the image becomes that of the fresh record, or on a refusal of the all-zero one.
 #[no_mangle]
-pub extern "C" fn node_set_up(image: &mut [u8; 628], me: usize, n: usize, cap: usize) -> u8
+pub extern "C" fn node_set_up(image: &mut [u8; image::SIZE], me: usize, n: usize, cap: usize) -> u8
     ensures { λ r. ⌜ setUpLeft r (now (image .exit)) ≡ exportedSetUp me n cap ⌝ }
 {
     let made = Node::set_up(me, n, cap);
@@ -27,11 +27,11 @@ pub extern "C" fn node_set_up(image: &mut [u8; 628], me: usize, n: usize, cap: u
 /// Send: the values are the bytes and the extra frames issued.
 #[no_mangle]
 pub extern "C" fn node_send(
-    image: &mut [u8; 628],
+    image: &mut [u8; image::SIZE],
     to: usize,
     body: &[u8],
     out: &mut [u8],
-    values: &mut [usize; 2],
+    values: &mut [u32; 2],
 ) -> u8
     ensures { λ r. ⌜ sendLeft r (now (image .exit)) (now (out .exit)) (now (values .exit)) ≡ exportedSend (now (image .entry)) to (now (body .entry)) (now (out .entry)) (now (values .entry)) ⌝ }
 {
@@ -43,7 +43,7 @@ pub extern "C" fn node_send(
         SendAnswer::Sent { bytes, extras } => {
             let next = sent.node;
             image::store(image, next);
-            *values = [bytes, extras];
+            *values = [bytes as u32, extras as u32];
             0
         }
     }
@@ -52,10 +52,10 @@ pub extern "C" fn node_send(
 /// Offer: the values are the frames held now, and 1 where this one was deliverable at that moment.
 #[no_mangle]
 pub extern "C" fn node_offer(
-    image: &mut [u8; 628],
+    image: &mut [u8; image::SIZE],
     frame: &[u8],
     queue: &mut [u8],
-    values: &mut [usize; 2],
+    values: &mut [u32; 2],
 ) -> u8
     ensures { λ r. ⌜ offerLeft r (now (image .exit)) (now (queue .exit)) (now (values .exit)) ≡ exportedOffer (now (image .entry)) (now (frame .entry)) (now (queue .entry)) (now (values .entry)) ⌝ }
 {
@@ -67,7 +67,7 @@ pub extern "C" fn node_offer(
         OfferAnswer::Held { count, ready } => {
             let next = offered.node;
             image::store(image, next);
-            *values = [count, ready as usize];
+            *values = [count as u32, ready as u32];
             0
         }
     }
@@ -76,11 +76,11 @@ pub extern "C" fn node_offer(
 /// Deliver: the values are kind, from, number, tried, body bytes, and the bytes and extra frames issued; kind 0 and tried where none is deliverable.
 #[no_mangle]
 pub extern "C" fn node_deliver(
-    image: &mut [u8; 628],
+    image: &mut [u8; image::SIZE],
     queue: &mut [u8],
     out: &mut [u8],
     body: &mut [u8],
-    values: &mut [usize; 7],
+    values: &mut [u32; 7],
 ) -> u8
     ensures { λ r. ⌜ deliverLeft r (now (image .exit)) (now (queue .exit)) (now (out .exit)) (now (body .exit)) (now (values .exit)) ≡ exportedDeliver (now (image .entry)) (now (queue .entry)) (now (out .entry)) (now (body .entry)) (now (values .entry)) ⌝ }
 {
@@ -90,20 +90,20 @@ pub extern "C" fn node_deliver(
     match answer {
         DeliverAnswer::Refused(why) => why,
         DeliverAnswer::Nothing(tried) => {
-            *values = [0, 0, 0, tried, 0, 0, 0];
+            *values = [0, 0, 0, tried as u32, 0, 0, 0];
             0
         }
         DeliverAnswer::Frame(d) => {
             let next = done.node;
             image::store(image, next);
             *values = [
-                d.kind as usize,
-                d.from as usize,
-                d.number as usize,
-                d.tried,
-                d.body,
-                d.bytes,
-                d.extras,
+                d.kind as u32,
+                d.from as u32,
+                d.number,
+                d.tried as u32,
+                d.body as u32,
+                d.bytes as u32,
+                d.extras as u32,
             ];
             0
         }

@@ -5,7 +5,7 @@ use generate::{Answer, Buffers, Call, Case, Outcome};
 use linked::lent::{self, Image, DELIVER_VALUES, OFFER_VALUES, SEND_VALUES};
 
 /// What stands in the lent numbers before a call.
-const MARK: usize = 0xA5A5_A5A5;
+const MARK: u32 = 0xA5A5_A5A5;
 
 /// What a call of the proved node leaves: its answer, the image, and whether a refusal kept the lent numbers.
 #[derive(Clone, Debug)]
@@ -48,7 +48,7 @@ pub fn run_lent(mut image: Image, call: &Call, buffers: &mut Buffers) -> Lent {
 }
 
 /// A refusal leaves the lent numbers.
-fn kept(status: u8, values: &[usize]) -> bool {
+fn kept(status: u8, values: &[u32]) -> bool {
     status == 0 || values.iter().all(|value| *value == MARK)
 }
 

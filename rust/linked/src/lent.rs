@@ -26,7 +26,7 @@ extern "C" {
         body_length: usize,
         out: *mut u8,
         out_length: usize,
-        values: *mut usize,
+        values: *mut u32,
     ) -> u8;
 
     fn node_offer(
@@ -35,7 +35,7 @@ extern "C" {
         frame_length: usize,
         queue: *mut u8,
         queue_length: usize,
-        values: *mut usize,
+        values: *mut u32,
     ) -> u8;
 
     fn node_deliver(
@@ -46,7 +46,7 @@ extern "C" {
         out_length: usize,
         body: *mut u8,
         body_length: usize,
-        values: *mut usize,
+        values: *mut u32,
     ) -> u8;
 }
 
@@ -59,13 +59,13 @@ pub fn set_up(image: &mut Image, me: usize, n: usize, cap: usize) -> u8 {
 }
 
 /// Send.
-pub fn send(image: &mut Image, to: usize, body: &[u8], out: &mut [u8], values: &mut [usize; SEND_VALUES]) -> u8 {
+pub fn send(image: &mut Image, to: usize, body: &[u8], out: &mut [u8], values: &mut [u32; SEND_VALUES]) -> u8 {
     let (image, values) = (image.as_mut_ptr(), values.as_mut_ptr());
     unsafe { node_send(image, to, body.as_ptr(), body.len(), out.as_mut_ptr(), out.len(), values) }
 }
 
 /// Offer.
-pub fn offer(image: &mut Image, frame: &[u8], shelf: &mut [u8], values: &mut [usize; OFFER_VALUES]) -> u8 {
+pub fn offer(image: &mut Image, frame: &[u8], shelf: &mut [u8], values: &mut [u32; OFFER_VALUES]) -> u8 {
     let (image, values) = (image.as_mut_ptr(), values.as_mut_ptr());
     unsafe { node_offer(image, frame.as_ptr(), frame.len(), shelf.as_mut_ptr(), shelf.len(), values) }
 }
@@ -76,7 +76,7 @@ pub fn deliver(
     shelf: &mut [u8],
     out: &mut [u8],
     body_out: &mut [u8],
-    values: &mut [usize; DELIVER_VALUES],
+    values: &mut [u32; DELIVER_VALUES],
 ) -> u8 {
     let (image, values) = (image.as_mut_ptr(), values.as_mut_ptr());
     let (shelf_length, out_length, body_length) = (shelf.len(), out.len(), body_out.len());

@@ -49,35 +49,31 @@ pub fn set_up_answer(status: u8) -> Result<(), Refusal> {
 }
 
 /// The answer of a send with this status and these values.
-pub fn send_answer(status: u8, [bytes, extras]: [usize; SEND_VALUES]) -> SendAnswer {
+pub fn send_answer(status: u8, [bytes, extras]: [u32; SEND_VALUES]) -> SendAnswer {
     match status {
-        0 => SendAnswer::Sent { bytes, extras },
+        0 => SendAnswer::Sent { bytes: bytes as usize, extras: extras as usize },
         number => SendAnswer::Refused(number),
     }
 }
 
 /// The answer of an offer with this status and these values.
-pub fn offer_answer(status: u8, [held, deliverable]: [usize; OFFER_VALUES]) -> OfferAnswer {
+pub fn offer_answer(status: u8, [held, deliverable]: [u32; OFFER_VALUES]) -> OfferAnswer {
     match status {
-        0 => OfferAnswer::Held { held, deliverable: deliverable == 1 },
+        0 => OfferAnswer::Held { held: held as usize, deliverable: deliverable == 1 },
         number => OfferAnswer::Refused(number),
     }
 }
 
 /// The answer of a deliver with this status and these values.
-pub fn deliver_answer(status: u8, values: [usize; DELIVER_VALUES]) -> DeliverAnswer {
-    let [kind, from, number, looked, body, bytes, extras] = values;
+pub fn deliver_answer(status: u8, values: [u32; DELIVER_VALUES]) -> DeliverAnswer {
+    let [kind, _, number, ..] = values;
+    let [_, from, _, looked, body, bytes, extras] = values.map(|value| value as usize);
     match (status, kind) {
         (0, 0) => DeliverAnswer::None { looked },
-        (0, kind) => DeliverAnswer::Delivered(Delivery {
-            kind: kind as u8,
-            from,
-            number: number as u32,
-            looked,
-            body,
-            bytes,
-            extras,
-        }),
-        (number, _) => DeliverAnswer::Refused(number),
+        (0, kind) => {
+            let kind = kind as u8;
+            DeliverAnswer::Delivered(Delivery { kind, from, number, looked, body, bytes, extras })
+        }
+        (refusal, _) => DeliverAnswer::Refused(refusal),
     }
 }

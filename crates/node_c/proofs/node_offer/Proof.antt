@@ -1,5 +1,6 @@
 -- The record is loaded, the frame is offered, and what an accepted offer leaves is stored. Assumes nothing.
-use Rattle.node_c.proofs.Told.{offer-stored, offer-told}
+use native.Mathlib.Omega.{arith}
+use Rattle.node_c.proofs.Told.{offer-fits, offer-stored, offer-told}
 use borrow.Author.Needs.{needs}
 use Rattle.node_c.proofs.node_offer.Statement.{statement}
 use Rattle.node_c.proofs.node_offer.Tie as tie
@@ -20,7 +21,13 @@ store-requires : tie.Need-store-requires
 store-requires c κs = search needs
 
 cast-t20 : tie.Need-cast-t20
-cast-t20 c = search needs
+cast-t20 c =
+    let a = c .before .before .before .before in
+    let d = a .before .before .before .before in
+    record { fits = omega (arith, offer-fits _ _ _ _ _ (d .offer .ensures) _ (a .answer2 .given .1)) }
+
+cast-t21 : tie.Need-cast-t21
+cast-t21 c = search needs
 
 same-length : tie.Need-same-length
 same-length c = search needs
@@ -49,6 +56,7 @@ node-offer-spec =
     enum-known-answer-2
     store-requires
     cast-t20
+    cast-t21
     same-length
     returns
     same-length-2

@@ -1,8 +1,14 @@
 -- The record is loaded, the node sends, and what an accepted send leaves is stored. Assumes nothing.
-use Rattle.node_c.proofs.Told.{send-stored, send-told}
+use Prim.Native.Nat.{_≤_}
+use native.Mathlib.Omega.{arith}
+use Rattle.node_c.proofs.Told.{send-fits, send-stored, send-told}
 use borrow.Author.Needs.{needs}
 use Rattle.node_c.proofs.node_send.Statement.{statement}
 use Rattle.node_c.proofs.node_send.Tie as tie
+
+-- the values of an accepted send
+small : (c : tie.After-answer2) → (c .answer2 .given .0 .0 ≤ 1810) × (c .answer2 .given .0 .1 .0 ≤ 12)
+small c = let d = c .before .before .before .before in send-fits _ _ _ _ _ _ (d .send .ensures) _ (c .answer2 .given .1)
 
 load-requires : tie.Need-load-requires
 load-requires c κs = search needs
@@ -18,6 +24,12 @@ enum-known-answer-2 c = search needs
 
 store-requires : tie.Need-store-requires
 store-requires c κs = search needs
+
+cast-t21 : tie.Need-cast-t21
+cast-t21 c = record { fits = omega (arith, small (c .before .before .before .before) .0) }
+
+cast-t22 : tie.Need-cast-t22
+cast-t22 c = record { fits = omega (arith, small (c .before .before .before .before) .1) }
 
 same-length : tie.Need-same-length
 same-length c = search needs
@@ -45,6 +57,8 @@ node-send-spec =
     enum-known-answer
     enum-known-answer-2
     store-requires
+    cast-t21
+    cast-t22
     same-length
     returns
     same-length-2
