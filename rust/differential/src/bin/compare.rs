@@ -1,0 +1,74 @@
+//! Compares the proved node with the reference: `compare CALLS SEED [YARD]`.
+//!
+//! CALLS generated and crafted calls from the seed, then a hostile list for each thousand calls. YARD is the path of
+//! the compiled yard; without it yard inputs are left out.
+
+use differential::lists::hostile;
+use differential::run::{Cases, Tally};
+use differential::Difference;
+use generate::counts::Counts;
+use reference::random::Random;
+use std::path::PathBuf;
+use std::time::Instant;
+
+/// Steps of a list.
+const STEPS: usize = 400;
+
+fn main() {
+    let mut arguments = std::env::args().skip(1);
+    let mut number = |name: &str, usual: usize| match arguments.next() {
+        None => usual,
+        Some(text) => text.parse().unwrap_or_else(|_| panic!("{name} is a number: {text}")),
+    };
+    let (calls, seed) = (number("CALLS", 1_000_000), number("SEED", 1) as u64);
+    let yard = std::env::args().nth(3).map(PathBuf::from);
+    println!(
+        "seed {seed}, {calls} calls, yard {}",
+        yard.as_ref().map_or("left out".into(), |path| path.display().to_string())
+    );
+    let start = Instant::now();
+    let mut cases = Cases::new(seed);
+    let mut tally = Tally::default();
+    for index in 0..calls {
+        let case = cases.case();
+        if let Err(difference) = tally.add(&case, yard.as_deref()) {
+            stop(&difference, &format!("call {} of seed {seed}: compare {} {seed}", index + 1, index + 1));
+        }
+        progress("calls", index + 1, calls, start);
+    }
+    println!("{}", tally.counts.table());
+    println!("{} calls compared, {} yard inputs left out, no difference", tally.calls, tally.yards_left_out);
+    run_lists(calls / 1000, seed, start);
+}
+
+/// Hostile lists, each from a seed of its own.
+fn run_lists(lists: usize, seed: u64, start: Instant) {
+    let (mut steps, mut issued, mut counts) = (0, 0, Counts::default());
+    for index in 0..lists {
+        let own = seed.wrapping_mul(1_000_003).wrapping_add(index as u64);
+        match hostile(&mut Random::new(own), STEPS, counts) {
+            Ok(pairs) => {
+                steps += pairs.steps;
+                issued += pairs.issued.len();
+                counts = pairs.counts;
+            }
+            Err(difference) => stop(&difference, &format!("list {index} of seed {seed} (its own seed is {own})")),
+        }
+        progress("lists", index + 1, lists, start);
+    }
+    println!("{}", counts.table());
+    println!("{lists} hostile lists, {steps} steps compared, {issued} frames issued and delivered, no difference");
+}
+
+/// Prints a difference and how to come to it again.
+fn stop(difference: &Difference, place: &str) -> ! {
+    println!("{difference}\n{place}");
+    std::process::exit(1);
+}
+
+/// Shows progress about twenty times in a run.
+fn progress(what: &str, done: usize, all: usize, start: Instant) {
+    if done % (all / 20).max(1) == 0 {
+        eprintln!("{done} of {all} {what}, {:.0} s", start.elapsed().as_secs_f64());
+    }
+}

@@ -1,0 +1,71 @@
+//! A difference, printed so that the case can be repeated.
+
+use generate::{Buffers, Call, Case};
+use reference::Record;
+use std::fmt::{Display, Formatter, Result};
+
+/// A case on which the two implementations differ, and in what.
+#[derive(Clone, Debug)]
+pub struct Difference {
+    pub case: Case,
+    /// What differs, with both values.
+    pub parts: Vec<String>,
+}
+
+impl Display for Difference {
+    fn fmt(&self, f: &mut Formatter<'_>) -> Result {
+        writeln!(f, "DIFFERENCE in {}", self.case.call.name())?;
+        self.parts.iter().try_for_each(|part| writeln!(f, "  {part}"))?;
+        writeln!(f, "the case:")?;
+        write_record(f, &self.case.record)?;
+        write_call(f, &self.case.call)?;
+        write_buffers(f, &self.case.buffers)
+    }
+}
+
+/// The record, its non-zero counts alone.
+fn write_record(f: &mut Formatter<'_>, record: &Record) -> Result {
+    let counts = |counts: &[u32]| -> Vec<(usize, u32)> {
+        counts.iter().copied().enumerate().filter(|(_, count)| *count != 0).collect()
+    };
+    writeln!(f, "  me {} n {} cap {} held {}", record.me, record.n, record.cap, record.held)?;
+    writeln!(f, "  M as (12 x row + column, count): {:?}", counts(&record.m))?;
+    writeln!(f, "  DELIV as (node, count): {:?}", counts(&record.deliv))
+}
+
+/// The call with its numbers and the bytes that it reads.
+fn write_call(f: &mut Formatter<'_>, call: &Call) -> Result {
+    match call {
+        Call::SetUp { me, n, cap } => writeln!(f, "  set-up: me {me} n {n} cap {cap}"),
+        Call::Send { to, body } => writeln!(f, "  send: to {to}, body of {}: {}", body.len(), hex(body)),
+        Call::Offer { frame } => writeln!(f, "  offer: frame of {}: {}", frame.len(), hex(frame)),
+        Call::Deliver => writeln!(f, "  deliver"),
+        Call::Yard { input } => writeln!(f, "  yard: {:?}", String::from_utf8_lossy(input)),
+    }
+}
+
+/// The lent buffers as they were before the call.
+fn write_buffers(f: &mut Formatter<'_>, buffers: &Buffers) -> Result {
+    let Buffers { shelf, out, body_out } = buffers;
+    for (name, bytes) in [("shelf", shelf), ("frame output", out), ("body output", body_out)] {
+        writeln!(f, "  {name} of {}: {}", bytes.len(), hex(bytes))?;
+    }
+    Ok(())
+}
+
+/// Bytes in hex, runs of zeros counted.
+pub fn hex(bytes: &[u8]) -> String {
+    let mut text = String::new();
+    let mut rest = bytes;
+    while let Some(first) = rest.first() {
+        let zeros = rest.iter().take_while(|byte| **byte == 0).count();
+        if zeros > 8 {
+            text.push_str(&format!("<{zeros} zeros>"));
+            rest = &rest[zeros..];
+        } else {
+            text.push_str(&format!("{first:02X}"));
+            rest = &rest[1..];
+        }
+    }
+    text
+}

@@ -1,0 +1,12 @@
+//! The proved node beside the second implementation, call by call: answer, record and every byte of every buffer.
+#![forbid(unsafe_code)]
+
+pub mod crafted;
+pub mod difference;
+pub mod lists;
+pub mod pair;
+pub mod program;
+pub mod run;
+
+pub use difference::Difference;
+pub use pair::{compare, Lent};

@@ -1,0 +1,85 @@
+//! How often each answer of each call is met.
+
+use crate::case::{Answer, Call, Case, Outcome};
+use reference::{DeliverAnswer, OfferAnswer, SendAnswer};
+use std::collections::BTreeMap;
+
+/// Counts by call and by what was answered, and the most bytes that a call issued or held.
+#[derive(Clone, Debug, Default)]
+pub struct Counts {
+    counts: BTreeMap<(&'static str, String), usize>,
+    largest: BTreeMap<&'static str, usize>,
+}
+
+impl Counts {
+    /// Counts a case's outcome; a yard is counted by the refusals that it prints.
+    pub fn add(&mut self, case: &Case, outcome: &Outcome) {
+        for label in labels(&outcome.answer) {
+            *self.counts.entry((case.call.name(), label)).or_default() += 1;
+        }
+        let largest = self.largest.entry(case.call.name()).or_default();
+        *largest = bytes_of(case, &outcome.answer).max(*largest);
+    }
+
+    /// The most bytes that a send or a deliver issued, or that an offered and held frame had.
+    pub fn largest(&self, call: &'static str) -> usize {
+        self.largest.get(call).copied().unwrap_or(0)
+    }
+
+    /// How often a call gave a refusal.
+    pub fn of(&self, call: &'static str, number: u8) -> usize {
+        self.counts.get(&(call, format!("{number:>2}"))).copied().unwrap_or(0)
+    }
+
+    /// One line for each call and label, then the most bytes of each call.
+    pub fn table(&self) -> String {
+        let line = |call: &str, label: &str, count: usize| format!("{call:8} {label:24} {count:>8}\n");
+        let counts = self.counts.iter().map(|((call, label), count)| line(call, label, *count));
+        let largest = self.largest.iter().filter(|(_, bytes)| **bytes > 0);
+        counts.chain(largest.map(|(call, bytes)| line(call, "most bytes", *bytes))).collect()
+    }
+}
+
+/// The bytes that a step issued, or that an offered and held frame has.
+fn bytes_of(case: &Case, answer: &Answer) -> usize {
+    match (answer, &case.call) {
+        (Answer::Send(SendAnswer::Sent { bytes, .. }), _) => *bytes,
+        (Answer::Deliver(DeliverAnswer::Delivered(delivery)), _) => delivery.bytes,
+        (Answer::Offer(OfferAnswer::Held { .. }), Call::Offer { frame }) => frame.len(),
+        _ => 0,
+    }
+}
+
+/// What an answer is counted as.
+fn labels(answer: &Answer) -> Vec<String> {
+    match answer {
+        Answer::Yard(printed) => yard_labels(printed),
+        answer if answer.number() > 0 => vec![format!("{:>2}", answer.number())],
+        answer => vec![taken_label(answer)],
+    }
+}
+
+/// What an answer that is no refusal is counted as.
+fn taken_label(answer: &Answer) -> String {
+    match answer {
+        Answer::Send(SendAnswer::Sent { extras, .. }) => format!("sent, {extras} extras"),
+        Answer::Offer(OfferAnswer::Held { deliverable: true, .. }) => "held, deliverable".to_string(),
+        Answer::Offer(_) => "held, waiting".to_string(),
+        Answer::Deliver(DeliverAnswer::None { looked: 0 }) => "none, nothing held".to_string(),
+        Answer::Deliver(DeliverAnswer::None { .. }) => "none".to_string(),
+        Answer::Deliver(DeliverAnswer::Delivered(delivery)) => {
+            format!("kind {}, {} extras", delivery.kind, delivery.extras)
+        }
+        _ => "taken".to_string(),
+    }
+}
+
+/// The first fields of the refusals, and the letters of the other lines, that a yard prints.
+fn yard_labels(printed: &[u8]) -> Vec<String> {
+    let text = String::from_utf8_lossy(printed);
+    let label = |line: &str| match line.split_once(' ') {
+        Some(("R", number)) => format!("{number:>2}"),
+        _ => line.chars().take(1).collect(),
+    };
+    text.lines().map(label).collect()
+}

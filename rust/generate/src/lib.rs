@@ -1,0 +1,14 @@
+//! Cases for differential tests of the causal node: sound, damaged and at every bound, from a seed.
+#![forbid(unsafe_code)]
+
+pub mod case;
+pub mod counts;
+pub mod frames;
+pub mod generator;
+pub mod records;
+pub mod shelves;
+pub mod states;
+pub mod yards;
+
+pub use case::{Answer, Buffers, Call, Case, Outcome};
+pub use generator::Generator;

@@ -1,0 +1,128 @@
+//! What holds of the generated cases, and how often each refusal is met.
+
+use generate::counts::Counts;
+use generate::{frames, records, shelves, states, Answer, Call, Case, Generator, Outcome};
+use reference::frame::Frame;
+use reference::random::Random;
+use reference::{shelf, Record};
+
+/// The checks of each call.
+const CHECKS: [(&str, &[u8]); 5] = [
+    ("set-up", &[1]),
+    ("send", &[2, 3, 5, 6, 7]),
+    ("offer", &[2, 3, 4, 8, 9, 10, 11, 12, 13, 14, 15, 16]),
+    ("deliver", &[2, 3, 4, 5]),
+    ("yard", &[6, 14, 15, 16, 17]),
+];
+
+/// A refusal leaves record and buffers, and another answer gives a sound record and shelf.
+fn check_outcome(case: &Case, outcome: &Outcome) {
+    let refused = outcome.answer.number() > 0;
+    match &case.call {
+        Call::Yard { .. } => (),
+        Call::SetUp { .. } if refused => assert_eq!(outcome.record, Record::ZERO),
+        _ if refused => assert_eq!((outcome.record, &outcome.buffers), (case.record, &case.buffers)),
+        Call::Offer { .. } | Call::Deliver => assert_eq!(shelf::check(&outcome.buffers.shelf, &outcome.record), Ok(())),
+        _ => (),
+    }
+    assert!(refused || matches!(outcome.answer, Answer::Yard(_)) || outcome.record.keeps_rules());
+}
+
+#[test]
+fn every_refusal_of_every_call_is_met_often() {
+    let mut generator = Generator::new(7);
+    let mut counts = Counts::default();
+    for _ in 0..40_000 {
+        let case = generator.case();
+        let outcome = case.run();
+        check_outcome(&case, &outcome);
+        counts.add(&case, &outcome);
+    }
+    println!("{}", counts.table());
+    for (call, checks) in CHECKS {
+        for number in 1..=255 {
+            let count = counts.of(call, number);
+            assert_eq!(checks.contains(&number), count > 0, "{call} {number}");
+            assert!(count == 0 || count >= 200, "{call} {number}: {count}");
+        }
+    }
+    assert_eq!(["send", "offer", "deliver"].map(|call| counts.largest(call)), [814, 802, 504]);
+}
+
+#[test]
+fn the_same_seed_gives_the_same_cases() {
+    let (mut first, mut second, mut other) = (Generator::new(3), Generator::new(3), Generator::new(4));
+    let different = (0..500).filter(|_| {
+        let case = first.case();
+        assert_eq!(case, second.case());
+        case != other.case()
+    });
+    assert!(different.count() > 400);
+}
+
+#[test]
+fn states_are_sound() {
+    let mut random = Random::new(11);
+    let mut runner = states::Runner::start(&mut random);
+    for _ in 0..2_000 {
+        let parted = states::parted_state(&mut random);
+        for mut state in [runner.next(&mut random), states::any_state(&mut random), parted] {
+            assert!(state.record.keeps_rules() && !state.record.is_at_limit());
+            assert_eq!(shelf::check(&state.shelf, &state.record), Ok(()));
+            states::reach_limit(&mut random, &mut state);
+            assert!(state.record.keeps_rules());
+            assert_eq!(shelf::check(&state.shelf, &state.record), Ok(()));
+        }
+    }
+}
+
+#[test]
+fn each_way_damages_a_record() {
+    let mut random = Random::new(12);
+    for way in 0..records::WAYS {
+        let mut damaged = 0;
+        for _ in 0..300 {
+            let mut record = records::any_record(&mut random);
+            if records::damage(&mut random, &mut record, way) {
+                assert!(!record.keeps_rules(), "{way}");
+            }
+            damaged += usize::from(!record.keeps_rules());
+        }
+        assert!(damaged > 50, "{way}: {damaged}");
+    }
+}
+
+#[test]
+fn each_way_damages_a_shelf() {
+    let mut random = Random::new(13);
+    for way in 0..shelves::WAYS {
+        let mut damaged = 0;
+        for _ in 0..300 {
+            let mut state = states::any_state(&mut random);
+            let sure = shelves::damage(&mut random, &mut state.record, &mut state.shelf, way);
+            let met = shelf::check(&state.shelf, &state.record) == Err(4);
+            assert!(met || !sure, "{way}");
+            damaged += usize::from(met);
+        }
+        assert!(damaged > 50, "{way}: {damaged}");
+    }
+}
+
+#[test]
+fn frames_are_sound_or_meet_their_check() {
+    let mut random = Random::new(14);
+    let mut met = [0; 15];
+    for _ in 0..2_000 {
+        let record = records::any_record(&mut random);
+        let ready = random.once_in(2);
+        let bytes = frames::sound(&mut random, &record, ready).bytes();
+        let frame = Frame::check(&bytes, &record).expect("a sound frame");
+        assert!(!ready || frame.is_deliverable(&record.deliv));
+        for check in 8..=14 {
+            let bytes = frames::damaged(&mut random, &record, check);
+            met[check as usize] += usize::from(Frame::check(&bytes, &record).err() == Some(check));
+        }
+    }
+    assert!(met[8..].iter().all(|count| *count > 1_000), "{met:?}");
+    println!("{met:?}");
+}

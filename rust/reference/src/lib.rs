@@ -1,0 +1,20 @@
+//! The causal node in plain Rust: a second implementation, written from document 01 alone.
+//!
+//! It is compared with the proved implementation by differential tests, and is the yardstick of its benchmark.
+#![forbid(unsafe_code)]
+
+pub mod draft;
+pub mod frame;
+pub mod list;
+pub mod node;
+pub mod random;
+pub mod record;
+pub mod shelf;
+pub mod yard;
+
+pub use node::{deliver, offer, send, set_up, DeliverAnswer, OfferAnswer, SendAnswer};
+pub use record::Record;
+pub use yard::yard;
+
+/// A refusal is its number.
+pub type Refusal = u8;

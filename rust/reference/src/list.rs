@@ -1,0 +1,86 @@
+//! A list: n nodes that start with fresh records and all-zero shelves, and the frames issued so far.
+
+use crate::frame::Frame;
+use crate::node::OUTPUT;
+use crate::{deliver, offer, send, shelf, DeliverAnswer, OfferAnswer, Record, Refusal, SendAnswer};
+
+/// A node of a list: its latest record, and the shelf as its last call left it.
+#[derive(Clone, Debug, PartialEq, Eq)]
+pub struct Seat {
+    pub record: Record,
+    pub shelf: Vec<u8>,
+}
+
+/// One for each me below n, with one n and one cap, and the frames in issue order.
+#[derive(Clone, Debug)]
+pub struct List {
+    pub seats: Vec<Seat>,
+    pub issued: Vec<Vec<u8>>,
+}
+
+impl List {
+    /// A list before its first step; 1 when n or cap is out of range.
+    pub fn start(n: usize, cap: usize) -> Result<List, Refusal> {
+        Record::fresh(0, n, cap)?;
+        let seat = |me| Ok(Seat { record: Record::fresh(me, n, cap)?, shelf: vec![0; shelf::LENGTH] });
+        let seats = (0..n).map(seat).collect::<Result<_, Refusal>>()?;
+        Ok(List { seats, issued: Vec::new() })
+    }
+
+    /// The number of nodes.
+    pub fn n(&self) -> usize {
+        self.seats.len()
+    }
+
+    /// An issued frame, counted from 0.
+    pub fn frame(&self, issue: usize) -> Frame<'_> {
+        Frame::first_of(&self.issued[issue]).expect("an issued frame is whole")
+    }
+
+    /// A send at node i.
+    pub fn send(&mut self, i: usize, j: usize, body: &[u8]) -> SendAnswer {
+        let mut out = [0; OUTPUT];
+        let seat = &mut self.seats[i];
+        let (answer, record) = send(seat.record, j, body, &mut out);
+        seat.record = record;
+        if let SendAnswer::Sent { bytes, .. } = answer {
+            self.note_issued(&out[..bytes]);
+        }
+        answer
+    }
+
+    /// An offer of an issued frame, counted from 0, at a node.
+    pub fn offer(&mut self, node: usize, issue: usize) -> OfferAnswer {
+        let seat = &mut self.seats[node];
+        let (answer, record) = offer(seat.record, &self.issued[issue], &mut seat.shelf);
+        seat.record = record;
+        answer
+    }
+
+    /// A deliver at a node, with the body that it writes.
+    pub fn deliver(&mut self, node: usize) -> (DeliverAnswer, Vec<u8>) {
+        let (mut out, mut body) = ([0; OUTPUT], [0; Record::BODY]);
+        let seat = &mut self.seats[node];
+        let (answer, record) = deliver(seat.record, &mut seat.shelf, &mut out, &mut body);
+        seat.record = record;
+        let DeliverAnswer::Delivered(delivery) = answer else {
+            return (answer, Vec::new());
+        };
+        self.note_issued(&out[..delivery.bytes]);
+        (answer, body[..delivery.body].to_vec())
+    }
+
+    /// The issue with this from, to and number, counted from 0.
+    pub fn find(&self, from: usize, to: usize, number: u32) -> Option<usize> {
+        let label = |frame: Frame| (frame.from(), frame.to(), frame.number());
+        (0..self.issued.len()).find(|issue| label(self.frame(*issue)) == (from, to, number))
+    }
+
+    /// Takes up the frames that a step issued, end to end in issue order.
+    fn note_issued(&mut self, mut bytes: &[u8]) {
+        while let Some(frame) = Frame::first_of(bytes) {
+            self.issued.push(frame.bytes().to_vec());
+            bytes = &bytes[frame.bytes().len()..];
+        }
+    }
+}

@@ -1,0 +1,119 @@
+//! The yard's example and the edges of its input.
+
+use reference::yard;
+
+/// What the yard prints, as text.
+fn printed(input: impl AsRef<[u8]>) -> String {
+    String::from_utf8(yard(input.as_ref())).unwrap()
+}
+
+/// What the yard of three prints for one more line, without the tally.
+fn line(text: &str) -> String {
+    let all = printed(format!("3 3\n{text}\n"));
+    all.rsplit_once("T ").unwrap().0.to_string()
+}
+
+#[test]
+fn the_example() {
+    let input = "3 3\nS 0 2\nS 0 1\nA 2\nD 1\nS 1 2\nA 3\nD 2\nA 1\nD 2\nD 2\n";
+    let output =
+        "S 1 0 2 0\nS 2 0 1 1\nA 2 1\nD 1 2 1\nS 3 1 2 1\nA 3 1\nN 2 1\nA 1 2\nD 2 1 2\nD 2 3 1\nT 3 0 3 1 0\n";
+    assert_eq!(printed(input), output);
+}
+
+#[test]
+fn the_first_line() {
+    for input in
+        ["", "3 3", "\n", "3\n", "3 3 3\n", "3  3\n", " 3 3\n", "3 3 \n", "3 3\r\n", "3\t3\n", "x 3\n", "3 0003\n"]
+    {
+        assert_eq!(printed(input), "R 17\n", "{input:?}");
+    }
+    for input in
+        ["1 1\n", "5 5\n", "3 2\n", "3 10\n", "2 5\n", "258 3\n", "3 259\n", "0 0\n", "4 17\n", "12 12\nS 0 1\n"]
+    {
+        assert_eq!(printed(input), "R 17\n", "{input:?}");
+    }
+    for input in ["3 3\n", "003 09\n", "2 2\n", "2 4\n", "4 4\n", "4 16\n", "3 9\n"] {
+        assert_eq!(printed(input), "T 0 0 0 0 0\n", "{input:?}");
+    }
+    assert_eq!(printed("\n3 3\n"), "R 17\n");
+}
+
+#[test]
+fn the_longest_input() {
+    let mut input = b"3 3\n".to_vec();
+    input.resize(4096, b'\n');
+    let output = format!("{}T 0 0 0 0 0\n", "R 17\n".repeat(4092));
+    assert_eq!(printed(&input), output);
+    input.push(b'\n');
+    assert_eq!(printed(&input), "R 17\n");
+}
+
+#[test]
+fn bytes_after_the_last_line_feed() {
+    assert_eq!(printed("3 3\nS 0 1"), "R 17\nT 0 0 0 0 0\n");
+    assert_eq!(printed("3 3\nS 0 1\n "), "S 1 0 1 0\nR 17\nT 1 0 0 0 0\n");
+    assert_eq!(printed("3 3\nS 0 1\n"), "S 1 0 1 0\nT 1 0 0 0 0\n");
+}
+
+#[test]
+fn other_lines() {
+    let lines = [
+        "", " ", "S", "S 0", "S 0 1 2", "S  0 1", " S 0 1", "S 0 1 ", "S 0 1\r", "S\t0 1", "S 0 0001", "s 0 1",
+        "S -1 1", "S 0 +1", "SS 0 1", "S0 1", "D", "D 0 1", "D 0000", "A", "A 1 1", "B 1", "A 1.", "D x", "\u{e9} 1",
+        "S 0 ", "3 3",
+    ];
+    for text in lines {
+        assert_eq!(line(text), "R 17\n", "{text:?}");
+    }
+    assert_eq!(printed(b"3 3\n\xFF\0\nD 1\n"), "R 17\nN 1 0\nT 0 0 0 1 0\n");
+}
+
+#[test]
+fn nodes_and_issues() {
+    assert_eq!(line("S 00 001"), "S 1 0 1 0\n");
+    assert_eq!(line("S 3 0"), "R 17\n");
+    assert_eq!(line("S 256 1"), "R 17\n");
+    assert_eq!(line("S 3 999"), "R 17\n");
+    assert_eq!([line("S 0 0"), line("S 0 3"), line("S 0 257"), line("S 0 999")], ["R 6\n"; 4]);
+    assert_eq!([line("D 3"), line("D 256"), line("A 0"), line("A 1"), line("A 999")], ["R 17\n"; 5]);
+    assert_eq!(line("S 0 1\nA 001"), "S 1 0 1 0\nA 1 1\n");
+    assert_eq!(line("S 0 1\nA 2\nA 257"), "S 1 0 1 0\nR 17\nR 17\n");
+    assert_eq!(line("D 2"), "N 2 0\n");
+}
+
+#[test]
+fn refusals_of_an_offer() {
+    assert_eq!(line("S 0 1\nA 1\nA 1\nD 1\nA 1"), "S 1 0 1 0\nA 1 1\nR 15\nD 1 1 1\nR 14\n");
+    let mut input = "3 3\n".to_string();
+    (0..18).for_each(|_| input.push_str("S 0 1\n"));
+    (2..=17).for_each(|m| input.push_str(&format!("A {m}\n")));
+    input.push_str("A 18\nA 1\nA 18\nD 1\n");
+    let output = printed(input);
+    assert!(output.contains("A 16 15\nR 16\nR 16\nA 1 16\nR 16\nD 1 1 16\n"), "{output}");
+}
+
+/// So many sends from 0 to 1.
+fn sends(count: usize) -> String {
+    "S 0 1\n".repeat(count)
+}
+
+#[test]
+fn sixty_four_issues() {
+    for (n, last) in [(2, 63), (3, 62), (4, 61)] {
+        let output = printed(format!("{n} {n}\n{}S 0 999\nD 1\nD 9\nA {last}\n", sends(last)));
+        let end = format!("R 17\nR 17\nR 17\nA {last} 1\nT {last} 0 0 0 0\n");
+        assert!(output.ends_with(&end), "{output}");
+        let output = printed(format!("{n} {n}\n{}S 0 999\nD 1\nS 0 1\nS 0 1\nD 0\n", sends(last - 1)));
+        let end = format!("R 6\nN 1 0\nS {last} 0 1 1\nR 17\nR 17\nT {last} 0 0 1 0\n");
+        assert!(output.ends_with(&end), "{output}");
+    }
+}
+
+#[test]
+fn an_extra_is_printed_counted_and_delivered() {
+    let lines = "3 3\nS 0 1\nS 0 2\nS 1 2\nS 1 0\nS 2 1\nS 2 0\nA 4\nD 0\nA 6\nD 0\nA 1\nA 5\nA 7\nD 1\nD 1\nD 1\n";
+    let issued = "S 1 0 1 0\nS 2 0 2 1\nS 3 1 2 0\nS 4 1 0 1\nS 5 2 1 0\nS 6 2 0 1\n";
+    let brought = "A 4 1\nD 0 4 1\nA 6 1\nD 0 6 1\nX 7 0 1 2\nA 1 1\nA 5 2\nA 7 3\nD 1 1 1\nD 1 5 1\nD 1 7 1\n";
+    assert_eq!(printed(lines), format!("{issued}{brought}T 6 1 5 0 16\n"));
+}
