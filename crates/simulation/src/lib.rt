@@ -10,7 +10,6 @@ use world::World;
 ghost use mathlib.Core.Path.{_≡_};
 ghost use Prim.Native.Nat.{ℕ, _+_, _≤_};
 ghost use lib.ListN.{length, drop};
-ghost use Rattle.wire.specs.Bytes.{put};
 ghost use Rattle.text.specs.Pieces.{split};
 ghost use Rattle.commands.specs.declared.FirstLine.the-variants as first;
 ghost use Rattle.causality.specs.Demand3.{start};

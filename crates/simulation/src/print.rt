@@ -7,10 +7,8 @@ ghost use mathlib.Core.List.{List, [], _∷_, _++_};
 ghost use Prim.Native.Nat.{ℕ, _+_, _-_, _*_, _≤_, _<_};
 ghost use mathlib.Core.Bool.{cond};
 ghost use lib.Dec.{eqb};
-ghost use lib.ListN.{length, take, drop};
-ghost use Rattle.wire.specs.Bytes.{put};
+ghost use lib.ListN.{length, drop};
 ghost use Rattle.text.specs.Print.{row};
-ghost use Rattle.world.specs.Stored.{Begins, joined};
 ghost use Rattle.simulation.specs.Yard.{refusalRow, headerRow, issueRows, printedBy, totalRow};
 ghost use Rattle.simulation.specs.Asked.{InLog, Logged, Small, Wrote};
 

@@ -1,8 +1,8 @@
-//! The program `yard`: standard input to standard output. A full buffer of 4,097 bytes is input that is too long.
+//! The program `yard`: standard input to standard output. One byte more than the longest input is read, which tells longer input.
 use simulation::Ran;
 
 fn main() {
-    let mut input = [0u8; 4097];
+    let mut input = [0u8; simulation::MAX_INPUT + 1];
     let n = io::read_full(0, &mut input);
     let mut out = [0u8; simulation::OUTPUT_SIZE];
     let ran = simulation::run(&input[..n], &mut out);

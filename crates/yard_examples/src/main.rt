@@ -12,7 +12,7 @@ fn one(k: usize) {
         os::fail(&path[..length]);
         return;
     }
-    let mut input = [0u8; 4097];
+    let mut input = [0u8; simulation::MAX_INPUT + 1];
     let n = io::read_full(fd, &mut input);
     libc::close(fd);
     let mut out = [0u8; simulation::OUTPUT_SIZE];
