@@ -56,7 +56,8 @@ fn generated_inputs() {
             }
         }
     }
-    println!("seeds {SEEDS:?}: {INPUTS} yard inputs of each compared\n{}", tally.counts.table());
+    println!("seeds {SEEDS:?}: {} yard inputs compared\n{}", tally.yards, tally.counts.table());
+    assert_eq!(tally.yards, SEEDS.len() * INPUTS);
     for number in REFUSALS {
         assert!(tally.counts.of("yard", number) > 0, "no yard printed R {number}");
     }

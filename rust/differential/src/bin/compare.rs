@@ -37,7 +37,10 @@ fn main() {
         progress("calls", index + 1, calls, start);
     }
     println!("{}", tally.counts.table());
-    println!("{} calls compared, {} yard inputs left out, no difference", tally.calls, tally.yards_left_out);
+    if tally.yards_left_out > 0 {
+        println!("{} yard inputs left out: no program named", tally.yards_left_out);
+    }
+    println!("{} calls, {} yard inputs compared, no difference", tally.calls, tally.yards);
     run_lists(calls / 1000, seed, start);
 }
 
