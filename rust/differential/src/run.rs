@@ -31,7 +31,7 @@ impl Cases {
     /// The next case.
     pub fn case(&mut self) -> Case {
         self.index += 1;
-        if self.index % 4 == 0 {
+        if self.index.is_multiple_of(4) {
             self.crafted.case()
         } else {
             self.generator.case()
