@@ -3,6 +3,7 @@
 
 pub mod crafted;
 pub mod difference;
+pub mod hostile;
 pub mod lists;
 pub mod pair;
 pub mod program;

@@ -1,17 +1,19 @@
-//! Whole lists on both implementations at once, over links that lose, repeat, delay, reorder and damage frames.
+//! Whole lists on both implementations at once.
 //!
 //! Each side keeps its own records and shelves from step to step: a record as itself in the reference, an image for
-//! the proved node. After every step answer, record and buffers are compared.
+//! the proved node. After every step answer, record and buffers are compared, and what both answered goes into the
+//! list's history, of which demand 3's conclusions are then checked.
 
 use crate::pair::{judge, run_lent, Lent};
 use crate::Difference;
 use generate::counts::Counts;
-use generate::{frames, records, Answer, Buffers, Call, Case, Outcome};
+use generate::{Answer, Buffers, Call, Case, Outcome};
 use linked::lent::Image;
 use reference::frame::Frame;
+use reference::history::{ensure, History, Wrong};
 use reference::node::OUTPUT;
-use reference::random::Random;
 use reference::{shelf, DeliverAnswer, OfferAnswer, Record, SendAnswer};
+use std::fmt::{Display, Formatter};
 
 /// What fills lent outputs before a step.
 const FILL: u8 = 0xC3;
@@ -25,27 +27,95 @@ pub struct Seat {
     lent_shelf: Vec<u8>,
 }
 
-/// A list on both sides, and its frames in issue order.
+/// A list on both sides, its frames in issue order, and its history.
 #[derive(Clone, Debug)]
 pub struct Pairs {
     pub seats: Vec<Seat>,
     pub issued: Vec<Vec<u8>>,
-    pub counts: Counts,
-    pub steps: usize,
+    pub history: History,
+    pub totals: Totals,
+    steps: usize,
 }
 
-/// A step's result, or what differed.
-pub type Step<T> = Result<T, Box<Difference>>;
+/// What lists came to, one after another.
+#[derive(Clone, Debug, Default)]
+pub struct Totals {
+    pub steps: usize,
+    pub issued: usize,
+    pub counts: Counts,
+    pub reached: Reached,
+}
+
+/// How often lists came to what is rare.
+#[derive(Clone, Copy, Debug, Default)]
+pub struct Reached {
+    /// Offers after which 15 frames are held.
+    pub fifteen_held: usize,
+    /// Offers after which 16 frames are held.
+    pub sixteen_held: usize,
+    /// Waiting frames refused because 15 are held.
+    pub refused_at_fifteen: usize,
+    /// Frames refused because 16 are held.
+    pub refused_at_sixteen: usize,
+    /// Issued frames offered at a node that is not their destination.
+    pub astray: usize,
+    /// Earliest undelivered frames that an offer had to take.
+    pub earliest_taken: usize,
+    /// Earliest undelivered frames that were held already.
+    pub earliest_held: usize,
+    /// Earliest undelivered frames that were not held where 16 others were.
+    pub earliest_shut_out: usize,
+}
+
+/// Why a list stops: the two sides differ, or what both answered breaks a conclusion of demand 3.
+#[derive(Clone, Debug)]
+pub enum Failure {
+    Differs(Box<Difference>),
+    Breaks(Wrong),
+}
+
+/// A step's result, or why the list stops.
+pub type Step<T> = Result<T, Failure>;
+
+impl From<Box<Difference>> for Failure {
+    fn from(difference: Box<Difference>) -> Failure {
+        Failure::Differs(difference)
+    }
+}
+
+impl From<Wrong> for Failure {
+    fn from(wrong: Wrong) -> Failure {
+        Failure::Breaks(wrong)
+    }
+}
+
+impl Display for Failure {
+    fn fmt(&self, f: &mut Formatter<'_>) -> std::fmt::Result {
+        match self {
+            Failure::Differs(difference) => difference.fmt(f),
+            Failure::Breaks(wrong) => write!(f, "BOTH SIDES BREAK DEMAND 3: {wrong}"),
+        }
+    }
+}
+
+impl Display for Totals {
+    fn fmt(&self, f: &mut Formatter<'_>) -> std::fmt::Result {
+        let Totals { steps, issued, counts, reached } = self;
+        writeln!(f, "{}{reached:#?}", counts.table())?;
+        write!(f, "{steps} steps compared, {issued} frames issued and delivered in causal order, no difference")
+    }
+}
 
 impl Pairs {
     /// A list before its first step; n and cap have to be in range.
     pub fn start(n: usize, cap: usize) -> Step<Pairs> {
-        Pairs::start_with(n, cap, Counts::default())
+        Pairs::start_with(n, cap, Totals::default())
     }
 
-    /// The same, with what earlier lists answered counted too.
-    fn start_with(n: usize, cap: usize, counts: Counts) -> Step<Pairs> {
-        let mut pairs = Pairs { seats: Vec::new(), issued: Vec::new(), counts, steps: 0 };
+    /// The same, with what earlier lists came to.
+    pub fn start_with(n: usize, cap: usize, totals: Totals) -> Step<Pairs> {
+        let history = History::start(n, cap);
+        let mut pairs = Pairs { seats: Vec::new(), issued: Vec::new(), history, totals, steps: 0 };
         for me in 0..n {
             let case = Case { record: Record::ZERO, call: Call::SetUp { me, n, cap }, buffers: Buffers::default() };
             let mut buffers = Buffers::default();
@@ -68,15 +138,34 @@ impl Pairs {
         let outcome = self.step(node, Call::Send { to, body: body.to_vec() })?;
         let Answer::Send(answer) = outcome.answer else { unreachable!("a send answers as one") };
         if let SendAnswer::Sent { bytes, .. } = answer {
-            self.note_issued(&outcome.buffers.out[..bytes]);
+            let first = self.note_issued(&outcome.buffers.out[..bytes]);
+            self.history.send(node, to, body, &self.issued[first..])?;
         }
+        self.check_node(node)?;
         Ok(answer)
     }
 
-    /// An offer of any bytes at a node.
+    /// An offer of any bytes at a node, which must be an issued frame's if they are taken.
     pub fn offer(&mut self, node: usize, frame: &[u8]) -> Step<OfferAnswer> {
         let outcome = self.step(node, Call::Offer { frame: frame.to_vec() })?;
         let Answer::Offer(answer) = outcome.answer else { unreachable!("an offer answers as one") };
+        if let OfferAnswer::Held { .. } = answer {
+            let issue = self.history.offer(node, frame)?;
+            ensure(self.issued[issue] == frame, || format!("issue {issue} was held with other bytes"))?;
+        }
+        self.note_offer(node, answer);
+        self.check_node(node)?;
+        Ok(answer)
+    }
+
+    /// An offer of an issued frame, counted from 0, at a node: any but its destination refuses it by 12.
+    pub fn offer_issue(&mut self, node: usize, issue: usize) -> Step<OfferAnswer> {
+        let frame = self.issued[issue].clone();
+        let answer = self.offer(node, &frame)?;
+        if frame[2] as usize != node {
+            self.totals.reached.astray += 1;
+            ensure(answer == OfferAnswer::Refused(12), || format!("issue {issue} at {node}: {answer:?}"))?;
+        }
         Ok(answer)
     }
 
@@ -84,10 +173,75 @@ impl Pairs {
     pub fn deliver(&mut self, node: usize) -> Step<DeliverAnswer> {
         let outcome = self.step(node, Call::Deliver)?;
         let Answer::Deliver(answer) = outcome.answer else { unreachable!("a deliver answers as one") };
-        if let DeliverAnswer::Delivered(delivery) = answer {
-            self.note_issued(&outcome.buffers.out[..delivery.bytes]);
+        match answer {
+            DeliverAnswer::Delivered(delivery) => {
+                let first = self.note_issued(&outcome.buffers.out[..delivery.bytes]);
+                let body = &outcome.buffers.body_out[..delivery.body];
+                self.history.delivery(node, &delivery, body, &self.issued[first..])?;
+            }
+            DeliverAnswer::None { .. } => self.history.none(node),
+            DeliverAnswer::Refused(number) => return Err(format!("a deliver in a list gave {number}").into()),
         }
+        self.check_node(node)?;
         Ok(answer)
+    }
+
+    /// An offer of any bytes and a deliver at a node that then goes back to where it was.
+    pub fn try_frame(&mut self, node: usize, frame: &[u8]) -> Step<()> {
+        self.aside(node, |pairs| {
+            pairs.step(node, Call::Offer { frame: frame.to_vec() })?;
+            pairs.step(node, Call::Deliver)?;
+            Ok(())
+        })
+    }
+
+    /// Demand 3's conclusions about the list so far. Once, kept and carried are checked in every step.
+    pub fn check_conclusions(&mut self) -> Step<()> {
+        self.history.check_causal_order()?;
+        self.check_progress()
+    }
+
+    /// At each node the earliest undelivered frame can go on; the list stays as it is.
+    pub fn check_progress(&mut self) -> Step<()> {
+        for node in 0..self.n() {
+            if let Some(issue) = self.history.earliest_to(node) {
+                self.aside(node, |pairs| pairs.go_on(node, issue))?;
+            }
+        }
+        Ok(())
+    }
+
+    /// An offer takes the frame unless it is held or 16 are; then a deliver delivers a frame that was not delivered.
+    fn go_on(&mut self, node: usize, issue: usize) -> Step<()> {
+        let reached = &mut self.totals.reached;
+        if self.history.is_held(issue) {
+            reached.earliest_held += 1;
+        } else if self.history.held_at(node) == Record::HELD {
+            reached.earliest_shut_out += 1;
+        } else {
+            reached.earliest_taken += 1;
+            let answer = self.step(node, Call::Offer { frame: self.issued[issue].clone() })?.answer;
+            let taken = matches!(answer, Answer::Offer(OfferAnswer::Held { deliverable: true, .. }));
+            ensure(taken, || format!("issue {issue}, the earliest undelivered to {node}, is not taken: {answer:?}"))?;
+        }
+        let answer = self.step(node, Call::Deliver)?.answer;
+        let delivered = match &answer {
+            Answer::Deliver(DeliverAnswer::Delivered(delivery)) => {
+                self.history.find(delivery.from, node, delivery.number)
+            }
+            _ => None,
+        };
+        let new = delivered.is_some_and(|issue| !self.history.is_delivered(issue));
+        ensure(new, || format!("issue {issue}, the earliest undelivered to {node}, does not go on: {answer:?}"))?;
+        Ok(())
+    }
+
+    /// Runs calls at a node that then goes back to where it was.
+    fn aside(&mut self, node: usize, run: impl FnOnce(&mut Pairs) -> Step<()>) -> Step<()> {
+        let seat = self.seats[node].clone();
+        run(self)?;
+        self.seats[node] = seat;
+        Ok(())
     }
 
     /// One call at a node on both sides.
@@ -117,96 +271,42 @@ impl Pairs {
             difference.parts.push(format!("at step {} of the list", self.steps));
             difference
         })?;
-        self.counts.add(case, &expected);
+        self.totals.counts.add(case, &expected);
         Ok(expected)
     }
 
-    /// Takes up the frames that a step issued.
-    fn note_issued(&mut self, mut bytes: &[u8]) {
-        while let Some(frame) = Frame::first_of(bytes) {
-            self.issued.push(frame.bytes().to_vec());
-            bytes = &bytes[frame.bytes().len()..];
-        }
+    /// Takes up the frames that a step issued; gives the first one's issue.
+    fn note_issued(&mut self, bytes: &[u8]) -> usize {
+        let first = self.issued.len();
+        self.issued.extend(Frame::all_of(bytes).map(|frame| frame.bytes().to_vec()));
+        first
     }
-}
 
-/// Runs a list of so many steps with hostile links, then lets every frame through; counts what it answers beside what
-/// earlier lists did.
-pub fn hostile(random: &mut Random, steps: usize, counts: Counts) -> Step<Pairs> {
-    let n = records::any_n(random);
-    let cap = records::any_cap(random, n);
-    let mut pairs = Pairs::start_with(n, cap, counts)?;
-    let (sends, delivers) = (random.within(1, 4), random.within(1, 4));
-    for _ in 0..steps {
-        let node = random.below(n);
-        match random.below(sends + delivers + 4) {
-            choice if choice < sends => {
-                let to = random.below(n + 1);
-                pairs.send(node, to, &frames::any_body(random))?;
-            }
-            choice if choice < sends + delivers => {
-                pairs.deliver(node)?;
-            }
-            _ => link(random, &mut pairs)?,
+    /// Counts what an offer came to at a full shelf.
+    fn note_offer(&mut self, node: usize, answer: OfferAnswer) {
+        let reached = &mut self.totals.reached;
+        match (answer, self.seats[node].record.held) {
+            (OfferAnswer::Held { .. }, 15) => reached.fifteen_held += 1,
+            (OfferAnswer::Held { .. }, 16) => reached.sixteen_held += 1,
+            (OfferAnswer::Refused(16), 15) => reached.refused_at_fifteen += 1,
+            (OfferAnswer::Refused(16), _) => reached.refused_at_sixteen += 1,
+            _ => (),
         }
     }
-    let_through(&mut pairs)?;
-    Ok(pairs)
-}
 
-/// A link brings a frame, old or new, at times to a wrong node or with a changed byte.
-fn link(random: &mut Random, pairs: &mut Pairs) -> Step<()> {
-    let count = pairs.issued.len();
-    let reach = if random.once_in(3) { count } else { count.min(3 * pairs.n()) };
-    let Some(issue) = count.checked_sub(1 + random.below(reach)) else {
-        return Ok(());
-    };
-    let mut frame = pairs.issued[issue].clone();
-    let mut node = frame[2] as usize;
-    match random.below(12) {
-        0 => node = random.below(pairs.n()),
-        1 => {
-            let repaired = random.once_in(2);
-            frames::damage_byte(random, &mut frame, repaired);
-            if repaired {
-                // A repaired frame might be held: it is offered to a copy of the node alone.
-                let mut copy = pairs.clone();
-                copy.offer(node, &frame)?;
-                copy.deliver(node)?;
-                return Ok(());
-            }
-        }
-        _ => (),
+    /// The matrix that a node keeps is within the cap, and as many frames are held as the history says.
+    fn check_node(&self, node: usize) -> Step<()> {
+        let record = &self.seats[node].record;
+        let (standing, held) = (record.standing(), self.history.held_at(node));
+        ensure(standing <= record.cap as usize, || format!("{node} keeps {standing} entries"))?;
+        ensure(record.held as usize == held, || format!("{node} says {} for {held} held", record.held))?;
+        Ok(())
     }
-    pairs.offer(node, &frame)?;
-    Ok(())
-}
 
-/// Offers all frames again and delivers until nothing moves; then every issued frame is delivered.
-fn let_through(pairs: &mut Pairs) -> Step<()> {
-    let mut moved = true;
-    let mut first = 0;
-    while moved {
-        moved = false;
-        let mut issue = first;
-        while issue < pairs.issued.len() {
-            let frame = pairs.issued[issue].clone();
-            let node = frame[2] as usize;
-            let answer = pairs.offer(node, &frame)?;
-            moved |= matches!(answer, OfferAnswer::Held { .. });
-            while let DeliverAnswer::Delivered(_) = pairs.deliver(node)? {
-                moved = true;
-            }
-            if issue == first && answer == OfferAnswer::Refused(14) {
-                first += 1;
-            }
-            issue += 1;
-        }
+    /// What the lists came to, this one the last.
+    pub fn end(mut self) -> Totals {
+        self.totals.steps += self.steps;
+        self.totals.issued += self.issued.len();
+        self.totals
     }
-    for issue in 0..pairs.issued.len() {
-        let frame = pairs.issued[issue].clone();
-        let node = frame[2] as usize;
-        assert_eq!(pairs.offer(node, &frame)?, OfferAnswer::Refused(14), "issue {issue} is not delivered");
-    }
-    Ok(())
 }

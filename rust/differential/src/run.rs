@@ -6,10 +6,11 @@ use generate::counts::Counts;
 use generate::{Answer, Call, Case, Generator, Outcome};
 use std::path::Path;
 
-/// How many calls were compared and what they answered; yards without a program are left out.
+/// How many calls and yard inputs were compared and what they answered; yards without a program are left out.
 #[derive(Clone, Debug, Default)]
 pub struct Tally {
     pub calls: usize,
+    pub yards: usize,
     pub yards_left_out: usize,
     pub counts: Counts,
 }
@@ -30,7 +31,7 @@ impl Cases {
     /// The next case.
     pub fn case(&mut self) -> Case {
         self.index += 1;
-        if self.index % 4 == 0 {
+        if self.index.is_multiple_of(4) {
             self.crafted.case()
         } else {
             self.generator.case()
@@ -41,15 +42,15 @@ impl Cases {
 impl Tally {
     /// Compares one case.
     pub fn add(&mut self, case: &Case, yard: Option<&Path>) -> Result<(), Box<Difference>> {
-        let outcome = match (&case.call, yard) {
+        let (outcome, count) = match (&case.call, yard) {
             (Call::Yard { .. }, None) => {
                 self.yards_left_out += 1;
                 return Ok(());
             }
-            (Call::Yard { input }, Some(program)) => compare_yard(case, program, input)?,
-            _ => compare(case)?,
+            (Call::Yard { input }, Some(program)) => (compare_yard(case, program, input)?, &mut self.yards),
+            _ => (compare(case)?, &mut self.calls),
         };
-        self.calls += 1;
+        *count += 1;
         self.counts.add(case, &outcome);
         Ok(())
     }

@@ -1,24 +1,30 @@
-//! Whole lists on both implementations.
+//! Whole lists on both implementations: no difference, and demand 3's conclusions hold of what both answered.
 
-use differential::lists::hostile;
-use generate::counts::Counts;
+use differential::hostile::hostile;
+use differential::lists::{Reached, Totals};
 use reference::random::Random;
+
+/// Steps of a list before every frame is let through.
+const STEPS: usize = 300;
 
 #[test]
 fn hostile_lists() {
-    let (mut counts, mut steps, mut issued) = (Counts::default(), 0, 0);
+    let mut totals = Totals::default();
     for seed in 1000..1300 {
-        match hostile(&mut Random::new(seed), 300, counts) {
-            Ok(pairs) => {
-                counts = pairs.counts;
-                steps += pairs.steps;
-                issued += pairs.issued.len();
-            }
-            Err(difference) => panic!("{difference}\nlist of seed {seed}"),
-        }
+        totals = hostile(&mut Random::new(seed), STEPS, totals)
+            .unwrap_or_else(|failure| panic!("{failure}\nlist of seed {seed}"));
     }
-    println!("seeds 1000 to 1299: {steps} steps compared, {issued} frames\n{}", counts.table());
+    println!("seeds 1000 to 1299:\n{totals}");
     for (call, number) in [("send", 6), ("offer", 8), ("offer", 12), ("offer", 14), ("offer", 15), ("offer", 16)] {
-        assert!(counts.of(call, number) > 0, "{call} never gave {number}");
+        assert!(totals.counts.of(call, number) > 0, "{call} never gave {number}");
     }
+    check_reached(totals.reached);
+}
+
+/// Shelves starved until 15 and 16 are held, offers at wrong nodes, and each way to go on were met.
+fn check_reached(reached: Reached) {
+    assert!(reached.fifteen_held > 0 && reached.sixteen_held > 0, "{reached:?}");
+    assert!(reached.refused_at_fifteen > 0 && reached.refused_at_sixteen > 0, "{reached:?}");
+    assert!(reached.astray > 0, "{reached:?}");
+    assert!(reached.earliest_taken > 0 && reached.earliest_held > 0 && reached.earliest_shut_out > 0, "{reached:?}");
 }

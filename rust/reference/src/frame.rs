@@ -41,6 +41,15 @@ impl<'a> Frame<'a> {
         bytes.get(..length).map(|bytes| Frame { bytes })
     }
 
+    /// The frames that lie end to end from the front of the bytes.
+    pub fn all_of(mut bytes: &'a [u8]) -> impl Iterator<Item = Frame<'a>> {
+        std::iter::from_fn(move || {
+            let frame = Frame::first_of(bytes)?;
+            bytes = &bytes[frame.bytes.len()..];
+            Some(frame)
+        })
+    }
+
     /// The frame that these bytes are whole, or the first of checks 8 to 14 that they meet at this record.
     pub fn check(bytes: &'a [u8], record: &Record) -> Result<Frame<'a>, Refusal> {
         refuse(!has_sound_trailer(bytes), 8)?;

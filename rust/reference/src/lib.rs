@@ -5,6 +5,7 @@
 
 pub mod draft;
 pub mod frame;
+pub mod history;
 pub mod list;
 pub mod node;
 pub mod random;

@@ -77,10 +77,7 @@ impl List {
     }
 
     /// Takes up the frames that a step issued, end to end in issue order.
-    fn note_issued(&mut self, mut bytes: &[u8]) {
-        while let Some(frame) = Frame::first_of(bytes) {
-            self.issued.push(frame.bytes().to_vec());
-            bytes = &bytes[frame.bytes().len()..];
-        }
+    fn note_issued(&mut self, bytes: &[u8]) {
+        self.issued.extend(Frame::all_of(bytes).map(|frame| frame.bytes().to_vec()));
     }
 }

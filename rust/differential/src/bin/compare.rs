@@ -3,11 +3,11 @@
 //! CALLS generated and crafted calls from the seed, then a hostile list for each thousand calls. YARD is the path of
 //! the compiled yard; without it yard inputs are left out.
 
-use differential::lists::hostile;
+use differential::hostile::hostile;
+use differential::lists::Totals;
 use differential::run::{Cases, Tally};
-use differential::Difference;
-use generate::counts::Counts;
 use reference::random::Random;
+use std::fmt::Display;
 use std::path::PathBuf;
 use std::time::Instant;
 
@@ -37,38 +37,34 @@ fn main() {
         progress("calls", index + 1, calls, start);
     }
     println!("{}", tally.counts.table());
-    println!("{} calls compared, {} yard inputs left out, no difference", tally.calls, tally.yards_left_out);
+    if tally.yards_left_out > 0 {
+        println!("{} yard inputs left out: no program named", tally.yards_left_out);
+    }
+    println!("{} calls, {} yard inputs compared, no difference", tally.calls, tally.yards);
     run_lists(calls / 1000, seed, start);
 }
 
 /// Hostile lists, each from a seed of its own.
 fn run_lists(lists: usize, seed: u64, start: Instant) {
-    let (mut steps, mut issued, mut counts) = (0, 0, Counts::default());
+    let mut totals = Totals::default();
     for index in 0..lists {
         let own = seed.wrapping_mul(1_000_003).wrapping_add(index as u64);
-        match hostile(&mut Random::new(own), STEPS, counts) {
-            Ok(pairs) => {
-                steps += pairs.steps;
-                issued += pairs.issued.len();
-                counts = pairs.counts;
-            }
-            Err(difference) => stop(&difference, &format!("list {index} of seed {seed} (its own seed is {own})")),
-        }
+        totals = hostile(&mut Random::new(own), STEPS, totals)
+            .unwrap_or_else(|failure| stop(&failure, &format!("list {index} of seed {seed} (its own seed is {own})")));
         progress("lists", index + 1, lists, start);
     }
-    println!("{}", counts.table());
-    println!("{lists} hostile lists, {steps} steps compared, {issued} frames issued and delivered, no difference");
+    println!("{lists} hostile lists:\n{totals}");
 }
 
 /// Prints a difference and how to come to it again.
-fn stop(difference: &Difference, place: &str) -> ! {
+fn stop(difference: &dyn Display, place: &str) -> ! {
     println!("{difference}\n{place}");
     std::process::exit(1);
 }
 
 /// Shows progress about twenty times in a run.
 fn progress(what: &str, done: usize, all: usize, start: Instant) {
-    if done % (all / 20).max(1) == 0 {
+    if done.is_multiple_of((all / 20).max(1)) {
         eprintln!("{done} of {all} {what}, {:.0} s", start.elapsed().as_secs_f64());
     }
 }

@@ -1,0 +1,138 @@
+//! Lists over links that lose, repeat, delay, reorder and damage frames, bring them to wrong nodes and starve a node.
+
+use crate::lists::{Pairs, Step, Totals};
+use generate::{frames, records};
+use reference::history::ensure;
+use reference::random::Random;
+use reference::{DeliverAnswer, OfferAnswer, Record, SendAnswer};
+
+/// Steps between two checks of what can go on.
+const BETWEEN: usize = 50;
+
+/// Runs a list of so many steps with hostile links, then lets every frame through; demand 3's conclusions are checked
+/// on the way, before and after that. Gives what it came to beside what earlier lists did.
+pub fn hostile(random: &mut Random, steps: usize, totals: Totals) -> Step<Totals> {
+    let n = records::any_n(random);
+    let cap = records::any_cap(random, n);
+    let mut pairs = Pairs::start_with(n, cap, totals)?;
+    let (sends, delivers) = (random.within(1, 4), random.within(1, 4));
+    let starved = if random.once_in(2) { random.below(steps) } else { steps };
+    for index in 0..steps {
+        if index == starved {
+            starve(random, &mut pairs)?;
+        }
+        let node = random.below(n);
+        match random.below(sends + delivers + 4) {
+            choice if choice < sends => {
+                let to = random.below(n + 1);
+                pairs.send(node, to, &frames::any_body(random))?;
+            }
+            choice if choice < sends + delivers => {
+                pairs.deliver(node)?;
+            }
+            _ => link(random, &mut pairs)?,
+        }
+        if index % BETWEEN == BETWEEN - 1 {
+            pairs.check_progress()?;
+        }
+    }
+    pairs.check_conclusions()?;
+    let_through(&mut pairs)?;
+    pairs.check_conclusions()?;
+    Ok(pairs.end())
+}
+
+/// A node other than this one.
+fn other(random: &mut Random, node: usize, n: usize) -> usize {
+    (node + 1 + random.below(n - 1)) % n
+}
+
+/// Keeps a frame back from a node while later ones reach it and nothing is delivered there, until its shelf takes no
+/// more that wait; then brings the earliest undelivered frame, and one more.
+fn starve(random: &mut Random, pairs: &mut Pairs) -> Step<()> {
+    let n = pairs.n();
+    let node = random.below(n);
+    let from = other(random, node, n);
+    pairs.send(from, node, &frames::any_body(random))?;
+    for _ in 0..Record::HELD + 2 {
+        let sender = if random.once_in(6) { other(random, node, n) } else { from };
+        send_and_bring(random, pairs, sender, node)?;
+    }
+    pairs.check_progress()?;
+    if let Some(issue) = pairs.history.earliest_to(node) {
+        pairs.offer_issue(node, issue)?;
+    }
+    send_and_bring(random, pairs, from, node)?;
+    pairs.check_progress()
+}
+
+/// Sends to a node and offers the message there at once.
+fn send_and_bring(random: &mut Random, pairs: &mut Pairs, from: usize, to: usize) -> Step<()> {
+    let issue = pairs.issued.len();
+    if let SendAnswer::Sent { .. } = pairs.send(from, to, &frames::any_body(random))? {
+        pairs.offer_issue(to, issue)?;
+    }
+    Ok(())
+}
+
+/// A link brings a frame, old or new, at times to a wrong node or with a changed byte.
+fn link(random: &mut Random, pairs: &mut Pairs) -> Step<()> {
+    let count = pairs.issued.len();
+    let reach = if random.once_in(3) { count } else { count.min(3 * pairs.n()) };
+    let Some(issue) = count.checked_sub(1 + random.below(reach)) else {
+        return Ok(());
+    };
+    let to = pairs.issued[issue][2] as usize;
+    match random.below(12) {
+        0 => {
+            let wrong = other(random, to, pairs.n());
+            pairs.offer_issue(wrong, issue)?;
+        }
+        1 => bring_damaged(random, pairs, issue)?,
+        _ => {
+            pairs.offer_issue(to, issue)?;
+        }
+    }
+    Ok(())
+}
+
+/// Brings a frame with a changed byte. With a repaired trailer it might be held, so that the node then goes back.
+fn bring_damaged(random: &mut Random, pairs: &mut Pairs, issue: usize) -> Step<()> {
+    let mut frame = pairs.issued[issue].clone();
+    let to = frame[2] as usize;
+    let repaired = random.once_in(2);
+    frames::damage_byte(random, &mut frame, repaired);
+    if repaired {
+        return pairs.try_frame(to, &frame);
+    }
+    pairs.offer(to, &frame)?;
+    Ok(())
+}
+
+/// Offers all frames again and delivers until nothing moves; then every issued frame is delivered.
+fn let_through(pairs: &mut Pairs) -> Step<()> {
+    let mut moved = true;
+    let mut first = 0;
+    while moved {
+        moved = false;
+        let mut issue = first;
+        while issue < pairs.issued.len() {
+            let node = pairs.issued[issue][2] as usize;
+            let answer = pairs.offer_issue(node, issue)?;
+            moved |= matches!(answer, OfferAnswer::Held { .. });
+            while let DeliverAnswer::Delivered(_) = pairs.deliver(node)? {
+                moved = true;
+            }
+            if issue == first && answer == OfferAnswer::Refused(14) {
+                first += 1;
+            }
+            issue += 1;
+        }
+    }
+    for issue in 0..pairs.issued.len() {
+        let answer = pairs.offer_issue(pairs.issued[issue][2] as usize, issue)?;
+        let delivered = pairs.history.is_delivered(issue) && answer == OfferAnswer::Refused(14);
+        ensure(delivered, || format!("issue {issue} is not delivered in the end: {answer:?}"))?;
+    }
+    Ok(())
+}
