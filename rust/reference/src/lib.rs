@@ -3,6 +3,7 @@
 //! It is compared with the proved implementation by differential tests, and is the yardstick of its benchmark.
 #![forbid(unsafe_code)]
 
+pub mod boundary;
 pub mod draft;
 pub mod frame;
 pub mod history;

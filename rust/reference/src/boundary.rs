@@ -1,0 +1,138 @@
+//! Lists that reach the largest frame, send and delivery, and a full shelf. They run on anything that takes a list's
+//! steps, so that one implementation can be tested by them and two can be compared.
+
+use crate::list::List;
+use crate::node::Delivery;
+use crate::{DeliverAnswer, OfferAnswer, SendAnswer};
+use std::ops::RangeInclusive;
+
+/// What takes a list's steps.
+pub trait Steps {
+    /// A send at node i.
+    fn send(&mut self, i: usize, j: usize, body: &[u8]) -> SendAnswer;
+    /// An offer of an issued frame, counted from 0, at a node.
+    fn offer(&mut self, node: usize, issue: usize) -> OfferAnswer;
+    /// A deliver at a node.
+    fn deliver(&mut self, node: usize) -> DeliverAnswer;
+    /// The frames in issue order.
+    fn issued(&self) -> &[Vec<u8>];
+}
+
+impl Steps for List {
+    fn send(&mut self, i: usize, j: usize, body: &[u8]) -> SendAnswer {
+        List::send(self, i, j, body)
+    }
+
+    fn offer(&mut self, node: usize, issue: usize) -> OfferAnswer {
+        List::offer(self, node, issue)
+    }
+
+    fn deliver(&mut self, node: usize) -> DeliverAnswer {
+        List::deliver(self, node).0
+    }
+
+    fn issued(&self) -> &[Vec<u8>] {
+        &self.issued
+    }
+}
+
+/// Sends with an empty body, which must be taken; gives the issue.
+fn send_ok(list: &mut impl Steps, i: usize, j: usize) -> usize {
+    let issue = list.issued().len();
+    assert!(matches!(list.send(i, j, &[]), SendAnswer::Sent { extras: 0, .. }));
+    issue
+}
+
+/// Brings an issued frame to its destination, where it must be delivered.
+pub fn bring(list: &mut impl Steps, issue: usize) -> Delivery {
+    let to = list.issued()[issue][2] as usize;
+    assert!(matches!(list.offer(to, issue), OfferAnswer::Held { deliverable: true, .. }));
+    match list.deliver(to) {
+        DeliverAnswer::Delivered(delivery) => delivery,
+        other => panic!("{other:?}"),
+    }
+}
+
+/// Sends to all of the nodes but itself.
+fn send_all(list: &mut impl Steps, i: usize, nodes: RangeInclusive<usize>) {
+    for j in nodes.filter(|j| *j != i) {
+        send_ok(list, i, j);
+    }
+}
+
+/// Lets node 0 of 12 know of a frame from every other node to each of the nodes 1 to the last given.
+fn know(list: &mut impl Steps, last: usize) {
+    send_all(list, 0, 1..=last);
+    for x in 1..12 {
+        send_all(list, x, 1..=last);
+        let issue = send_ok(list, x, 0);
+        assert_eq!(bring(list, issue).extras, 0);
+    }
+}
+
+/// A frame of 802 bytes (n 12, cap 121 or more), held at node 5, where it waits; gives its issue.
+pub fn frame_of_802(list: &mut impl Steps) -> usize {
+    know(list, 11);
+    assert_eq!(list.send(0, 5, &[0xFF; 64]), SendAnswer::Sent { bytes: 802, extras: 0 });
+    let issue = list.issued().len() - 1;
+    assert_eq!(list.offer(5, issue), OfferAnswer::Held { held: 1, deliverable: false });
+    assert_eq!(list.deliver(5), DeliverAnswer::None { looked: 1 });
+    issue
+}
+
+/// A send of 814 bytes in all (n 12, cap 110); gives the issue of its extra frame.
+pub fn send_of_814(list: &mut impl Steps) -> usize {
+    know(list, 10);
+    assert_eq!(list.send(0, 11, &[1; 64]), SendAnswer::Sent { bytes: 814, extras: 1 });
+    list.issued().len() - 1
+}
+
+/// A delivery that issues 504 bytes in seven extra frames (n 12, cap 55).
+pub fn delivery_of_504(list: &mut impl Steps) {
+    send_all(list, 11, 1..=10);
+    for x in 6..=10 {
+        send_ok(list, x, 11);
+    }
+    for x in 1..=5 {
+        let first = send_ok(list, x, 11);
+        let hint = send_ok(list, x, 6);
+        bring(list, hint);
+        for y in (1..=10).filter(|y| *y != x && *y != 6) {
+            send_ok(list, x, y);
+        }
+        let second = send_ok(list, x, 11);
+        bring(list, first);
+        bring(list, second);
+    }
+    for x in 6..=10 {
+        send_all(list, x, 1..=10);
+        let issue = send_ok(list, x, 0);
+        bring(list, issue);
+    }
+    let issue = list.issued().len();
+    assert!(matches!(list.send(11, 0, &[]), SendAnswer::Sent { extras: 1, .. }));
+    let delivery = bring(list, issue);
+    assert_eq!((delivery.bytes, delivery.extras), (504, 7));
+}
+
+/// Sixteen frames of 802 bytes to node 5 (n 12, cap 144): fifteen that wait are held, and the last is refused.
+pub fn sixteen_of_802(list: &mut impl Steps) {
+    know(list, 11);
+    let start = list.issued().len();
+    for _ in 0..16 {
+        list.send(0, 5, &[9; 64]);
+        for x in (1..12).filter(|x| *x != 5) {
+            send_ok(list, x, 5);
+            let issue = send_ok(list, x, 0);
+            bring(list, issue);
+        }
+    }
+    let issued = list.issued();
+    let whole: Vec<usize> = (start..issued.len()).filter(|issue| issued[*issue].len() == 802).collect();
+    assert_eq!(whole.len(), 16);
+    for (place, issue) in whole.iter().take(15).enumerate() {
+        assert_eq!(list.offer(5, *issue), OfferAnswer::Held { held: place + 1, deliverable: false });
+    }
+    assert_eq!(list.offer(5, whole[15]), OfferAnswer::Refused(16));
+    assert_eq!(list.deliver(5), DeliverAnswer::None { looked: 15 });
+}
