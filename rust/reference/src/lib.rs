@@ -1,4 +1,5 @@
-//! The causal node in plain Rust: a second implementation, written from document 01 alone.
+//! The causal node in plain Rust: a second implementation, written from document 01 and the
+//! readings of its open points, not from the proved code or its definitions.
 //!
 //! It is compared with the proved implementation by differential tests, and is the yardstick of its benchmark.
 #![forbid(unsafe_code)]
