@@ -1,8 +1,8 @@
 -- A loop that writes entries: what is written and what is left make the whole. And how the entries of an array go row by row. Assumes nothing.
 use Prim.Native.Nat.{_%_, _*_, _+_, _-_, _/_, _<_, _≤_, suc, zero, ℕ}
-use mathlib.Core.List.{List, [], _++_, append-nil}
+use mathlib.Core.List.{List, [], _∷_, _++_, append-nil}
 use mathlib.Core.Path.{_∙_, _≡_, ap, refl, sym}
-use native.Mathlib.Decide.{ℕ-discrete}
+use native.Mathlib.Decide.{decLe, ℕ-discrete}
 use native.Mathlib.Nat.{zero-add}
 use native.Mathlib.Omega.{arith}
 use lib.ListN.{drop, drop-of-length-le, getD, length, length-append, length-drop, take, take-append-drop}
@@ -47,6 +47,10 @@ pub writing-end : (o₀ : List ℕ) (at : ℕ) (whole : List Entry) (o : List �
 writing-end o₀ at whole o pos left w e =
     (omega (arith, w .place, ap length e), sym (put-none o pos) ∙ ap (λ (l : List Entry). put o pos (entriesBytes l)) (sym e) ∙ w .bytes)
 
+pub writing-all : (o₀ : List ℕ) (at : ℕ) (whole : List Entry) (o : List ℕ) (pos : ℕ) (left : List Entry) → Writing o₀ at whole o pos left → at + 6 * length whole ≤ pos → left ≡ []
+writing-all o₀ at whole o pos [] w h = refl
+writing-all o₀ at whole o pos (a ∷ left) w h = absurd (omega (arith, w .place))
+
 -- row x of an array
 abbrev pub rowOf : List ℕ → ℕ → List ℕ
 rowOf m x = take 12 (drop (12 * x) m)
@@ -80,6 +84,15 @@ rows-rest m x e h =
 
 pub rows-end : (m : List ℕ) (x : ℕ) → length m ≡ 144 → 12 ≤ x → listed (12 * x) (drop (12 * x) m) ≡ []
 rows-end m x e h = ap (listed (12 * x)) (drop-of-length-le m {i = 12 * x} (omega arith)) ∙ listed-nil (12 * x)
+
+-- before the end of the whole a row is left
+pub writing-row : (o₀ : List ℕ) (at : ℕ) (whole : List Entry) (o : List ℕ) (pos : ℕ) (m : List ℕ) (x : ℕ) → Writing o₀ at whole o pos (listed (12 * x) (drop (12 * x) m)) → length m ≡ 144
+    → pos < at + 6 * length whole → x < 12
+writing-row o₀ at whole o pos m x w e h = go (decLe 12 x)
+  where
+    go : Dec (12 ≤ x) → x < 12
+    go (yes k) = absurd (omega (arith, w .place, ap length (rows-end m x e k)))
+    go (no k) = omega arith
 
 -- the entries of a run of places that are zero but for one
 none-placed : (r k : ℕ) (f : ℕ → ℕ) → ((i : ℕ) → k ≤ i → i < k + r → f i ≡ 0) → listed k (listFrom k r f) ≡ []

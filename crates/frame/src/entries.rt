@@ -71,14 +71,15 @@ fn write_row(out: &mut [u8], at: usize, m: &[u32; 144], x: usize) -> usize
     pos
 }
 
-/// Writes the non-zero entries of a matrix, and gives the place after them.
-pub fn write(out: &mut [u8], at: usize, m: &[u32; 144]) -> usize
-    requires { ⌜ (at + 6 * length (entriesOf (entry (now m))) ≤ length (now out)) × (length (now m) ≡ 144) ⌝ }
+/// Writes the e non-zero entries of a matrix, and gives the place after them; the rows behind the last of them are not looked at.
+pub fn write(out: &mut [u8], at: usize, m: &[u32; 144], e: usize) -> usize
+    requires { ⌜ (at + 6 * e ≤ length (now out)) × (length (now m) ≡ 144) × (e ≡ length (entriesOf (entry (now m)))) ⌝ }
     ensures { λ r. ⌜ (r ≡ at + 6 * length (entriesOf (entry (now (m .entry))))) × (now (out .exit) ≡ put (now (out .entry)) at (entriesBytes (entriesOf (entry (now (m .entry)))))) ⌝ }
 {
+    let end = at + 6 * e;
     let mut pos = at;
     let mut x: usize = 0;
-    while x < 12 {
+    while pos < end {
         pos = write_row(out, pos, m, x);
         x += 1;
     }

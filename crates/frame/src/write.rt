@@ -22,6 +22,7 @@ pub fn user(out: &mut [u8], at: usize, a: Address, m: &[u32; 144], body: &[u8]) 
     requires { ⌜ (at + 12 + 6 * count (entry (now m)) + length (now body) ≤ length (now out)) × (length (now m) ≡ 144) × (length (now body) < 256) ⌝ }
     ensures { λ r. ⌜ (r ≡ at + 12 + 6 * count (entry (now (m .entry))) + length (now (body .entry))) × (now (out .exit) ≡ put (now (out .entry)) at (encode (userMessage (a .from) (a .to) (a .n) (a .cap) (entry (now (m .entry))) (now (body .entry))))) ⌝ }
 {
+    let e = matrix::count(m);
     super::header::write(
         out,
         at,
@@ -29,14 +30,14 @@ pub fn user(out: &mut [u8], at: usize, a: Address, m: &[u32; 144], body: &[u8]) 
             kind: 1,
             from: a.from,
             to: a.to,
-            e: matrix::count(m) as u8,
+            e: e as u8,
             b: body.len() as u8,
             n: a.n,
             cap: a.cap,
             reserved: 0,
         },
     );
-    let pos = super::entries::write(out, at + 8, m);
+    let pos = super::entries::write(out, at + 8, m, e as usize);
     wire::copy(out, pos, body);
     wire::write_trailer(out, at, pos + body.len())
 }

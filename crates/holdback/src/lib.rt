@@ -133,14 +133,16 @@ pub fn alike(q: &[u8], held: usize, s: &[u8]) -> bool
     false
 }
 
-// Whether each byte is zero: all are or-ed, with no early exit.
+// Whether each byte is zero: both halves are or-ed at once, with no early exit; the middle byte of an odd number is in both.
 fn all_zero(s: &[u8]) -> bool
     ensures { λ r. ⌜ r ≡ allZero (now (s .entry)) ⌝ }
 {
+    let low = s.len() / 2;
+    let high = s.len() - low;
     let mut acc: u8 = 0;
     let mut at: usize = 0;
-    while at < s.len() {
-        acc = acc | s[at];
+    while at < high {
+        acc = acc | s[at] | s[low + at];
         at += 1;
     }
     acc == 0

@@ -20,8 +20,9 @@ count-requires c κs = search needs
 
 cast-t11 : tie.Need-cast-t11
 cast-t11 c =
-    let s = c .before .before .before .before in
-    record { fits = omega (arith, c .count .ensures, count-le (entry (s .args .m .now))) }
+    let b = c .before in
+    let s = b .before .before .before in
+    record { fits = omega (arith, b .count .ensures, count-le (entry (s .args .m .now))) }
 
 cast-t13 : tie.Need-cast-t13
 cast-t13 c = search needs
@@ -32,11 +33,15 @@ write-requires c κs = search needs
 add-write : tie.Need-add-write
 add-write c = search needs
 
+cast-write : tie.Need-cast-write
+cast-write c = search needs
+
 write-requires-2 : tie.Need-write-requires-2
 write-requires-2 c κs =
     let b = c .before .before .before in
     let s = b .before .before .before .before .before in
-    (omega (arith, length-entriesOf (entry (s .args .m .now)), s .pre .0, b .write .kept .0), s .pre .1)
+    let k = b .before .before .count .ensures in
+    (omega (arith, k, s .pre .0, b .write .kept .0), s .pre .1, omega (arith, k, length-entriesOf (entry (s .args .m .now))))
 
 copy-requires : tie.Need-copy-requires
 copy-requires c κs =
@@ -78,7 +83,7 @@ returns c =
     let a = s .args in
     let m = userMessage (a .a .from) (a .a .to) (a .a .n) (a .a .cap) (entry (a .m .now)) (a .body .now) in
     let e = length-entriesOf (entry (a .m .now)) in
-    let head = b .write .ensures ∙ ap (λ (x : Header). put (a .out .now) (a .at) (headerBytes x)) (header-user (a .a) (entry (a .m .now)) (a .body .now) (b .before .count .result) (b .before .count .ensures)) in
+    let head = b .write .ensures ∙ ap (λ (x : Header). put (a .out .now) (a .at) (headerBytes x)) (header-user (a .a) (entry (a .m .now)) (a .body .now) (b .before .before .count .result) (b .before .before .count .ensures)) in
     let body = put-front (a .out .now) (a .at) m _ _ _ (d .write2 .result) head (d .write2 .ensures .1) (d .write2 .ensures .0) (f .copy .ensures) in (
       omega (arith, h .write-trailer .ensures .0, d .write2 .ensures .0),
       put-frame (a .out .now) (a .at) m _ _ (d .write2 .result + length (a .body .now)) body (omega (arith, front-length m, d .write2 .ensures .0)) (omega (arith, s .pre .0, d .write2 .ensures .0)) (h .write-trailer .ensures .1),
@@ -93,6 +98,7 @@ user-spec =
     cast-t13
     write-requires
     add-write
+    cast-write
     write-requires-2
     copy-requires
     add-write-trailer
