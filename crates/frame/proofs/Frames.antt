@@ -1,7 +1,7 @@
 -- Laws of frames end to end: one more, two runs of them, how they are written, and how long an extra one is. Assumes nothing.
 use Prim.Native.Nat.{_*_, _+_, _<_, _≤_, ℕ}
-use mathlib.Core.List.{List, [], _++_, _∷_, append-assoc}
-use mathlib.Core.Path.{_∙_, _≡_, ap, refl, sym}
+use mathlib.Core.List.{List, [], _++_, _∷_}
+use mathlib.Core.Path.{_∙_, _≡_, ap, refl}
 use native.Mathlib.Omega.{arith}
 use lib.ListN.{length, length-append}
 use Rattle.frame.proofs.Written.{length-encode}
@@ -23,12 +23,6 @@ frames-nil = refl
 pub frames-cons : (m : Message) (l : List Message) → framesOf (m ∷ l) ≡ encode m ++ framesOf l
 unfolding framesOf
 frames-cons m l = refl
-
--- two runs of frames, one behind the other
-pub frames-append : (k l : List Message) → framesOf (k ++ l) ≡ framesOf k ++ framesOf l
-unfolding framesOf
-frames-append [] l = refl
-frames-append (m ∷ k) l = ap (λ (z : List ℕ). encode m ++ z) (frames-append k l) ∙ sym (append-assoc (encode m) (framesOf k) (framesOf l))
 
 -- how many bytes they are
 pub length-frames : (m : Message) (l : List Message) → length (framesOf (m ∷ l)) ≡ length (encode m) + length (framesOf l)

@@ -13,7 +13,7 @@ use Rattle.frame.specs.Frame.{decode}
 use Rattle.frame.specs.Header.{header, ownLength}
 use Rattle.frame.specs.Refusals.{frameRefusal}
 use Rattle.holdback.proofs.Checking.{later, same-eq, someWrong}
-use Rattle.holdback.proofs.Slots.{EachFramed, Framed, header-take, own-least}
+use Rattle.holdback.proofs.Slots.{Framed, header-take, own-least}
 use Rattle.holdback.specs.Check.{heldRefused, sameBytes, someAlike, someRefused, wrongQueue}
 use Rattle.holdback.specs.Places.{frameAt, slotAt}
 use Rattle.holdback.specs.Slots.{frameIn, heldFrames, heldMessages, laid, queueSize}
@@ -110,10 +110,3 @@ held-kept d (suc held) q t zero h =
 held-kept d (suc held) q t (suc i) h =
     let r = or-not (heldRefused d (frameIn (take maxFrame q))) (someRefused d (heldFrames held (drop maxFrame q))) t .1 in
     rw (← later i q) (held-kept d held (drop maxFrame q) r i (omega arith))
-
-pub held-framed : (d : Node) (l : List (List ℕ)) → T (not (someRefused d l)) → EachFramed l
-unfolding someRefused
-held-framed d [] t = tt
-held-framed d (s ∷ l) t =
-    let p = or-not (heldRefused d s) (someRefused d l) t in
-    (passes-framed (d .n) (d .cap) s (frame-kept d s (p .0) .passes), held-framed d l (p .1))

@@ -1,48 +1,23 @@
 -- For callers: the queue after a frame is held or removed holds the frames that it should, and the place that a search found. Assumes nothing.
 use Prim.Native.Nat.{_<_, _≤_, suc, zero, ℕ}
 use mathlib.Core.Bool.{Bool, cond, false, true}
-use mathlib.Core.List.{List, [], _++_, _∷_, map}
+use mathlib.Core.List.{List, [], _∷_, map}
 use mathlib.Core.Path.{_∙_, _≡_, ap, refl}
 use native.Mathlib.Omega.{arith}
 use lib.ListN.{drop, getD, length, length-map}
 use Rattle.frame.specs.Frame.{decode}
-use Rattle.holdback.proofs.Checking.{eq-same, later}
-use Rattle.holdback.proofs.Held.{QueueKept}
+use Rattle.holdback.proofs.Checking.{later}
 use Rattle.holdback.proofs.Searched.{found-at}
-use Rattle.holdback.proofs.Slots.{EachFits, EachFramed, Framed, held-slots, length-held, length-slots}
-use Rattle.holdback.specs.Check.{someAlike, someRefused, wrongQueue}
+use Rattle.holdback.proofs.Slots.{EachFramed, held-slots, length-held}
 use Rattle.holdback.specs.Places.{frameAt, placeOf}
-use Rattle.holdback.specs.Slots.{heldFrames, heldMessages, laid, queueSize, without}
+use Rattle.holdback.specs.Slots.{heldFrames, heldMessages, laid, without}
 use Rattle.matrix.specs.Message.{Message}
 use Rattle.protocol.specs.Deliver.{Search, absent, found, past, search}
-use Rattle.protocol.specs.Node.{Node}
-use Rattle.wire.proofs.Tests.{is-false}
 use Rattle.wire.specs.Limits.{maxFrame, maxHeld}
-
--- what passing check 4 tells is all that it asks
-pub kept-queue : (d : Node) (held : ℕ) (q : List ℕ) → QueueKept d held q → wrongQueue d held q ≡ false
-unfolding wrongQueue
-kept-queue d held q k =
-    let l : List (List ℕ) = heldFrames held q in
-    rw (eq-same q (laid l) (k .queue), is-false (someRefused d l) (k .refused), is-false (someAlike (heldMessages held q)) (k .apart))
 
 -- the frames of a queue that is laid out
 pub held-again : (l : List (List ℕ)) (held : ℕ) (q : List ℕ) → q ≡ laid l → length l ≡ held → held ≤ maxHeld → EachFramed l → heldFrames held q ≡ l
 held-again l held q e n h f = rw (e, ← n) (held-slots maxHeld l (omega arith) f)
-
-pub size-again : (l : List (List ℕ)) (q : List ℕ) → q ≡ laid l → EachFits l → length q ≡ queueSize
-size-again l q e f = ap length e ∙ length-slots maxHeld l f
-
--- one frame more, and one less
-pub framed-append : (l : List (List ℕ)) (s : List ℕ) → EachFramed l → Framed s → EachFramed (l ++ (s ∷ []))
-framed-append [] s f g = (g, tt)
-framed-append (t ∷ l) s f g = (f .0, framed-append l s (f .1) g)
-
-pub framed-without : (k : ℕ) (l : List (List ℕ)) → EachFramed l → EachFramed (without k l)
-unfolding without
-framed-without k [] f = tt
-framed-without zero (s ∷ l) f = f .1
-framed-without (suc k) (s ∷ l) f = (f .0, framed-without k l (f .1))
 
 pub length-without : (k : ℕ) (l : List (List ℕ)) → k < length l → length l ≡ suc (length (without k l))
 unfolding without

@@ -35,8 +35,8 @@ fn move_down(q: &mut [u8], at: usize)
     ensures { λ _. ⌜ now (q .exit) ≡ put (now (q .entry)) at (take maxFrame (drop (at + maxFrame) (now (q .entry)))) ⌝ }
 {
     let mut j: usize = 0;
-    while j < 802 {
-        q[at + j] = q[at + 802 + j];
+    while j < wire::MAX_FRAME {
+        q[at + j] = q[at + wire::MAX_FRAME + j];
         j += 1;
     }
 }
@@ -47,7 +47,7 @@ fn clear(q: &mut [u8], at: usize)
     ensures { λ _. ⌜ now (q .exit) ≡ put (now (q .entry)) at (zeros maxFrame) ⌝ }
 {
     let mut j: usize = 0;
-    while j < 802 {
+    while j < wire::MAX_FRAME {
         q[at + j] = 0;
         j += 1;
     }

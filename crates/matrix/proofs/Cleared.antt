@@ -2,10 +2,9 @@
 use Prim.Native.Nat.{_<_, _≤_, suc, ℕ}
 use mathlib.Core.List.{List}
 use mathlib.Core.Path.{_∙_, _≡_}
-use native.Mathlib.Decide.{decLt, ℕ-discrete}
+use native.Mathlib.Decide.{ℕ-discrete}
 use native.Mathlib.Omega.{arith}
 use Rattle.matrix.proofs.Array.{entry-back, entry-out}
-use Rattle.matrix.proofs.Columns.{MatrixRules}
 use Rattle.matrix.proofs.Matrix.{clear-gone, clear-keep, clear-mine, nonZero-le}
 use Rattle.matrix.proofs.Sums.{sum-ones}
 use Rattle.matrix.specs.Array.{entry, flat}
@@ -18,14 +17,6 @@ Inside m = (x y : ℕ) → (x < 12 → y < 12 → ⊥) → m x y ≡ 0
 -- the matrix of an array, and that of a node, are
 pub inside-entry : (l : List ℕ) → Inside (entry l)
 inside-entry l x y h = entry-out l x y h
-
-pub inside-rules : (n me : ℕ) (m : Matrix) → n ≤ 12 → MatrixRules n me m → Inside m
-inside-rules n me m hn f x y h = go (decLt x 12) (decLt y 12)
-  where
-    go : Dec (x < 12) → Dec (y < 12) → m x y ≡ 0
-    go (yes a) (yes b) = absurd (h a b)
-    go (yes a) (no b) = f .columns x y (omega arith)
-    go (no a) d = f .rows x y (omega arith)
 
 -- and stay so when a column is cleared
 pub inside-clear : (i j : ℕ) (m : Matrix) → i < 12 → j < 12 → Inside m → Inside (clear i j m)

@@ -1,5 +1,5 @@
 -- Trim: twelve rounds are enough, it ends within the cap, and it issues at most one message to each destination, one in a round.
-use Prim.Native.Nat.{ℕ, zero, suc, _+_, _≤_, _<_}
+use Prim.Native.Nat.{ℕ, zero, suc, _≤_, _<_}
 use mathlib.Core.Bool.{not, cond}
 use mathlib.Core.List.{List, [], _∷_}
 use mathlib.Core.Logic.{_⊎_, inl, inr, _≢_}
@@ -8,11 +8,8 @@ use native.Mathlib.Decide.{ℕ-discrete, decLe}
 use native.Mathlib.Omega.{arith}
 use lib.Dec.{T, leb, leb→le, le→leb, nleb→lt}
 use lib.ListN.{length}
-use Rattle.matrix.proofs.Array.{entry-back}
-use Rattle.matrix.proofs.Cleared.{Inside, clear-le, inside-clear}
 use Rattle.matrix.proofs.Columns.{MatrixRules, fullest-lt, fullest-two, two-below, two-other, clear-rules, clear-one, clear-same, crowded, crowded-le, crowded-down, crowded-some}
 use Rattle.matrix.proofs.Matrix.{clear-mine, clear-keep}
-use Rattle.matrix.specs.Array.{entry, flat}
 use Rattle.matrix.specs.Matrix.{Matrix, columnCount, count, fullest, clear}
 use Rattle.matrix.specs.Message.{Message, extraMessage}
 use Rattle.protocol.specs.Trim.{Trimmed, untouched, issuing, trimFor}
@@ -112,25 +109,3 @@ trim-few (suc k) me n cap m =
     cond-elim (λ (t : Trimmed). length (t .extras) ≤ suc k) (leb (count m) cap) (untouched m) (issuing (extraMessage me (fullest m) n cap m) (trimFor k me n cap (clear me (fullest m) m)))
     (λ _. omega arith)
     (λ _. omega (arith, trim-few k me n cap (clear me (fullest m) m)))
-
--- an entry goes up by at most one in a round
-pub trim-grows : (k me n cap : ℕ) (m : Matrix) (x y : ℕ) → trimFor k me n cap m .matrix x y ≤ m x y + k
-unfolding trimFor
-trim-grows zero me n cap m x y = omega arith
-trim-grows (suc k) me n cap m x y =
-    cond-elim (λ (t : Trimmed). t .matrix x y ≤ m x y + suc k) (leb (count m) cap) (untouched m) (issuing (extraMessage me (fullest m) n cap m) (trimFor k me n cap (clear me (fullest m) m)))
-    (λ _. omega arith)
-    (λ _. omega (arith, trim-grows k me n cap (clear me (fullest m) m) x y, clear-le me (fullest m) m x y))
-
--- a matrix that is zero outside its twelve rows and columns stays so
-pub trim-inside : (k me n cap : ℕ) (m : Matrix) → me < 12 → Inside m → Inside (trimFor k me n cap m .matrix)
-unfolding trimFor
-trim-inside zero me n cap m hm z = z
-trim-inside (suc k) me n cap m hm z =
-    cond-elim (λ (t : Trimmed). Inside (t .matrix)) (leb (count m) cap) (untouched m) (issuing (extraMessage me (fullest m) n cap m) (trimFor k me n cap (clear me (fullest m) m)))
-    (λ _. z)
-    (λ _. trim-inside k me n cap (clear me (fullest m) m) hm (inside-clear me (fullest m) m hm (fullest-lt m) z))
-
--- so the array that `trim` leaves has the trimmed matrix
-pub trim-back : (me n cap : ℕ) (m : Matrix) → me < 12 → Inside m → entry (flat (trimFor 12 me n cap m .matrix)) ≡ trimFor 12 me n cap m .matrix
-trim-back me n cap m hm z = entry-back (trimFor 12 me n cap m .matrix) (trim-inside 12 me n cap m hm z)

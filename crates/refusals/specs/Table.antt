@@ -1,12 +1,12 @@
 -- The ◆ table: exactly the ◆ examples of document 01's section on shop examples, in its order, each a row of one statement about the calls on record and bytes.
-use Prim.Native.Nat.{ℕ, zero, suc, _+_}
-use mathlib.Core.Bool.{Bool, true, false}
+use Prim.Native.Nat.{ℕ, zero, suc}
+use mathlib.Core.Bool.{true}
 use mathlib.Core.List.{List, [], _∷_, _++_}
 use mathlib.Core.Path.{_≡_}
 use lib.ListN.{replicate, take}
 use Rattle.matrix.specs.Array.{entry}
 use Rattle.matrix.specs.Matrix.{Matrix, columnCount, count, merge, single}
-use Rattle.matrix.specs.Message.{Message, userMessage}
+use Rattle.matrix.specs.Message.{userMessage}
 use Rattle.frame.specs.Frame.{decode, encode}
 use Rattle.holdback.specs.Slots.{laid, queueSize, zeros}
 use Rattle.node.specs.Answers.{AfterDeliver, AfterOffer, AfterSend}

@@ -1,12 +1,12 @@
 -- The record rules of document 01, each a test of its own, on the matrix and the vector as functions.
--- n is 2 to 12, me is below n, and cap is n to n * n
 use Prim.Native.Nat.{_*_, ℕ}
 use mathlib.Core.Bool.{Bool, _&&_, _||_, not}
 use lib.Dec.{eqb, leb, ltb}
 use Rattle.matrix.specs.Matrix.{Matrix, count}
-use Rattle.protocol.specs.Node.{eachBelow, someBelow}
+use Rattle.protocol.specs.Node.{eachBelow}
 use Rattle.wire.specs.Limits.{maxCount, maxHeld, maxNodes}
 
+-- n is 2 to 12, me is below n, and cap is n to n * n
 unfoldable pub inRange : ℕ → ℕ → ℕ → Bool
 inRange me n cap = leb 2 n && leb n maxNodes && ltb me n && leb n cap && leb cap (n * n)
 

@@ -1,6 +1,6 @@
 //! The record rules: whether n, me and cap are in range, whether matrix and vector keep the rules, and whether a count is at its limit. Passes have no early exit, since a record is sound nearly always.
 ghost use mathlib.Core.Path.{_≡_};
-ghost use mathlib.Core.Bool.{cond, _&&_, _||_};
+ghost use mathlib.Core.Bool.{_&&_, _||_};
 ghost use Prim.Native.Nat.{_+_, _*_, _≤_, _<_};
 ghost use lib.Dec.{eqb, leb, ltb};
 ghost use lib.ListN.{length, getD};
@@ -84,13 +84,27 @@ fn matrix_within(m: &[u32; 144]) -> bool
     ok
 }
 
-// Row x is zero from column `from` on.
-fn row_zero_from(m: &[u32; 144], x: usize, from: usize) -> bool
-    requires { ⌜ (length (now m) ≡ 144) × (x < 12) × (from ≤ 12) ⌝ }
-    ensures { λ r. ⌜ r ≡ eachBelow 12 (λ y. ltb y from || eqb (entry (now (m .entry)) x y) 0) ⌝ }
+// Rows of the matrix from n on are zero: one run of the array.
+fn rows_zero_from(m: &[u32; 144], n: usize) -> bool
+    requires { ⌜ (length (now m) ≡ 144) × (n ≤ 12) ⌝ }
+    ensures { λ r. ⌜ r ≡ eachBelow 12 (λ x. eachBelow 12 (λ y. ltb x n || eqb (entry (now (m .entry)) x y) 0)) ⌝ }
 {
     let mut ok = true;
-    let mut y = from;
+    let mut k = 12 * n;
+    while k < 144 {
+        ok = both(ok, m[k] == 0);
+        k += 1;
+    }
+    ok
+}
+
+// Row x is zero from column n on.
+fn row_zero_from(m: &[u32; 144], x: usize, n: usize) -> bool
+    requires { ⌜ (length (now m) ≡ 144) × (x < 12) × (n ≤ 12) ⌝ }
+    ensures { λ r. ⌜ r ≡ eachBelow 12 (λ y. ltb y n || eqb (entry (now (m .entry)) x y) 0) ⌝ }
+{
+    let mut ok = true;
+    let mut y = n;
     while y < 12 {
         ok = both(ok, m[12 * x + y] == 0);
         y += 1;
@@ -98,22 +112,15 @@ fn row_zero_from(m: &[u32; 144], x: usize, from: usize) -> bool
     ok
 }
 
-// The column from which row x is zero.
-fn zero_start(x: usize, n: usize) -> usize
-    ensures { λ r. ⌜ r ≡ cond (ltb x n) n 0 ⌝ }
-{
-    if x < n { n } else { 0 }
-}
-
 // Rows and columns of the matrix from n on are zero.
 fn matrix_zero_from(m: &[u32; 144], n: usize) -> bool
     requires { ⌜ (length (now m) ≡ 144) × (n ≤ 12) ⌝ }
     ensures { λ r. ⌜ r ≡ eachBelow 12 (λ x. eachBelow 12 (λ y. ltb x n && ltb y n || eqb (entry (now (m .entry)) x y) 0)) ⌝ }
 {
-    let mut ok = true;
+    let mut ok = rows_zero_from(m, n);
     let mut x: usize = 0;
-    while x < 12 {
-        ok = both(ok, row_zero_from(m, x, zero_start(x, n)));
+    while x < n {
+        ok = both(ok, row_zero_from(m, x, n));
         x += 1;
     }
     ok

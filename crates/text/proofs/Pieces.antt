@@ -24,12 +24,6 @@ pub before-later : (c b : ℕ) (s : List ℕ) → (b ≡ c → ⊥) → before c
 unfolding before
 before-later c b s e = cond-no (eqb b c) 0 (suc (before c s)) (ne→neqb b c e)
 
--- at most all bytes stand before the first c
-pub before-le : (c : ℕ) (s : List ℕ) → before c s ≤ length s
-unfolding before
-before-le c [] = omega arith
-before-le c (b ∷ s) = cond-elim (λ (k : ℕ). k ≤ suc (length s)) (eqb b c) 0 (suc (before c s)) (λ t. omega arith) (λ t. omega (arith, before-le c s))
-
 -- one place of a search: c stands at i, another byte stands there, or the text ends
 pub search-found : (c : ℕ) (s : List ℕ) (i : ℕ) → i < length s → getD s i 0 ≡ c → before c (drop i s) ≡ 0
 search-found c s i h e = rw (rest s i h) (before-here c (getD s i 0) (drop (i + 1) s) e)

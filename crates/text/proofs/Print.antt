@@ -125,13 +125,6 @@ pub length-row-cons : (l v : ℕ) (vs : List ℕ) → length (row l (v ∷ vs)) 
 unfolding row spaced
 length-row-cons l v vs = simp length-append (omega arith)
 
--- a line of numbers of 32 bits has at most eleven bytes for each, and two more
-pub length-row-le : (l : ℕ) (vs : List ℕ) → ((k : ℕ) → getD vs k 0 < 4294967296) → length (row l vs) ≤ 2 + 11 * length vs
-length-row-le l [] h = omega (arith, length-row-nil l)
-length-row-le l (v ∷ vs) h =
-    let f : length (decimal v) ≤ 10 = decimal-few 10 v (omega arith) (omega (arith, h 0)) in
-    omega (arith, length-row-cons l v vs, length-row-le l vs (λ k. h (suc k)))
-
 -- what is left of a line behind some of its numbers: nothing but the line feed, or a number and what is left behind it
 unfoldable pub remaining : List ℕ → List ℕ
 remaining vs = spaced vs ++ (10 ∷ [])

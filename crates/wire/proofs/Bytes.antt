@@ -40,12 +40,6 @@ pub put-rest : (o : List ℕ) (at : ℕ) (s : List ℕ) (i : ℕ) → i < length
 unfolding put
 put-rest o at s i h = rw (rest s i h) (ap (λ (k : ℕ). put (set o (at + i) (getD s i 0)) k (drop (i + 1) s)) (add-assoc at i 1))
 
--- what stands past the bytes written is as before
-pub drop-put : (n : ℕ) (o : List ℕ) (at : ℕ) (bs : List ℕ) → at + length bs ≤ n → drop n (put o at bs) ≡ drop n o
-unfolding put
-drop-put n o at [] h = refl
-drop-put n o at (b ∷ bs) h = drop-put n (set o at b) (at + 1) bs (omega arith) ∙ drop-set-lt n o at b (omega arith)
-
 -- the bytes written, between what stood before and behind them
 pub put-eq : (o : List ℕ) (at : ℕ) (bs : List ℕ) → at + length bs ≤ length o → put o at bs ≡ take at o ++ (bs ++ drop (at + length bs) o)
 unfolding put

@@ -1,32 +1,37 @@
--- The loop has tested the rows before x. Assumes nothing.
+-- The rows from n on are tested, and the loop has tested the columns from n on of the rows before x. Assumes nothing.
 use Prim.Native.Nat.{_-_, _≤_, ℕ}
-use mathlib.Core.Bool.{_&&_, _||_}
-use mathlib.Core.Path.{_∙_, _≡_, ap}
+use mathlib.Core.Bool.{Bool, _&&_, _||_, and-true}
+use mathlib.Core.List.{List}
+use mathlib.Core.Path.{_∙_, _≡_, ap, sym}
 use native.Mathlib.Omega.{arith}
 use borrow.Author.Needs.{needs}
 use lib.Dec.{eqb, ltb}
 use Rattle.matrix.specs.Array.{entry}
 use Rattle.protocol.specs.Node.{eachBelow}
-use Rattle.rules.proofs.Passes.{each-turn, row-start, start-le}
+use Rattle.rules.proofs.Passes.{each-after, outside}
 use Rattle.rules.proofs.matrix_zero_from.Statement.{statement}
 use Rattle.rules.proofs.matrix_zero_from.Tie as tie
 
+-- the two passes, the second up to row x
+abbrev passed : List ℕ → ℕ → ℕ → Bool
+passed m n x = eachBelow 12 (λ a. eachBelow 12 (λ b. ltb a n || eqb (entry m a b) 0)) && eachBelow x (λ a. eachBelow 12 (λ b. ltb b n || eqb (entry m a b) 0))
+
 abbrev Inv-loop : tie.InvT-loop
-Inv-loop m n ok₀ x₀ ok x = (x ≤ 12) × (ok ≡ eachBelow x (λ a. eachBelow 12 (λ b. ltb a n && ltb b n || eqb (entry m a b) 0)))
+Inv-loop m n ok₀ x₀ ok x = (x ≤ n) × (ok ≡ passed m n x)
 
 abbrev μ-loop : tie.MeasureT-loop
-μ-loop m n ok₀ x₀ ok x = 12 - x
+μ-loop m n ok₀ x₀ ok x = n - x
+
+rows-zero-from-requires : tie.Need-rows-zero-from-requires Inv-loop μ-loop
+rows-zero-from-requires c κs = search needs
 
 loop-holds : tie.Need-loop-holds Inv-loop μ-loop
-loop-holds c = search needs
-
-zero-start-requires : tie.Need-zero-start-requires Inv-loop μ-loop
-zero-start-requires c κs = search needs
+loop-holds c =
+    let a = c .before .args in
+    (search needs, c .rows-zero-from .ensures ∙ sym (and-true (eachBelow 12 (λ x. eachBelow 12 (λ y. ltb x (a .n) || eqb (entry (a .m .now) x y) 0)))))
 
 row-zero-from-requires : tie.Need-row-zero-from-requires Inv-loop μ-loop
-row-zero-from-requires c κs =
-    let s = c .before .before .before in
-    (s .pre .0, search needs, rw (c .zero-start .ensures) (start-le (s .args .n) (c .before .before .loop .x) (s .pre .1)))
+row-zero-from-requires c κs = search needs
 
 both-requires : tie.Need-both-requires Inv-loop μ-loop
 both-requires c κs = search needs
@@ -39,20 +44,18 @@ loop-less c = search needs
 
 loop-again : tie.Need-loop-again Inv-loop μ-loop
 loop-again c =
-    let z = c .before .before in
+    let z = c .before in
     let w = z .before .before in
-    let a = w .before .args in
+    let a = w .before .before .args in
     let m = entry (a .m .now) in
-    let x = w .loop .x in
-    let here = c .before .row-zero-from .ensures ∙ ap (λ (f : ℕ). eachBelow 12 (λ b. ltb b f || eqb (m x b) 0)) (z .zero-start .ensures) ∙ row-start (a .n) x (m x) in
-    (search needs, each-turn x (λ a′. eachBelow 12 (λ b. ltb a′ (a .n) && ltb b (a .n) || eqb (m a′ b) 0)) _ _ _ (w .loop .inv .1) here (c .both .ensures))
+    (search needs, each-after (eachBelow 12 (λ x. eachBelow 12 (λ y. ltb x (a .n) || eqb (m x y) 0))) (w .loop .x) (λ x. eachBelow 12 (λ y. ltb y (a .n) || eqb (m x y) 0)) _ _ _ (w .loop .inv .1) (z .row-zero-from .ensures) (c .both .ensures))
 
 returns : tie.Need-returns Inv-loop μ-loop
 returns c =
     let b = c .before in
-    let a = b .before .args in
-    let end : b .loop .x ≡ 12 = omega arith in
-    b .loop .inv .1 ∙ ap (λ (k : ℕ). eachBelow k (λ x. eachBelow 12 (λ y. ltb x (a .n) && ltb y (a .n) || eqb (entry (a .m .now) x y) 0))) end
+    let s = b .before .before in
+    let end : b .loop .x ≡ s .args .n = omega arith in
+    b .loop .inv .1 ∙ ap (passed (s .args .m .now) (s .args .n)) end ∙ outside (s .args .n) (entry (s .args .m .now)) (s .pre .1)
 
 pub matrix-zero-from-spec : {M : Type 1} → statement M
 matrix-zero-from-spec =
@@ -60,8 +63,8 @@ matrix-zero-from-spec =
     (tie.spec
     Inv-loop
     μ-loop
+    rows-zero-from-requires
     loop-holds
-    zero-start-requires
     row-zero-from-requires
     both-requires
     add-x
