@@ -3,10 +3,9 @@ use Prim.Native.Nat.{ℕ, _+_, _*_, _-_, _≤_, _<_}
 use mathlib.Core.Bool.{Bool, true, false, _||_}
 use mathlib.Core.List.{List, [], _∷_, _++_}
 use mathlib.Core.Path.{_≡_, refl, sym, ap, ap₂, _∙_, subst}
-use native.Mathlib.Nat.{add-zero}
 use native.Mathlib.Omega.{arith}
 use lib.Dec.{leb}
-use lib.ListN.{length, getD, set, take, drop, length-drop, take-append-drop}
+use lib.ListN.{length, getD, set, take, drop}
 use lib.Seq.{length-take-le, set-getD}
 use Rattle.wire.proofs.Bytes.{put-nil}
 use Rattle.wire.specs.Bytes.{put as write}
@@ -21,9 +20,9 @@ use Rattle.node.specs.declared.DeliverAnswer.{DeliverAnswer}
 use Rattle.node.specs.declared.DeliverAnswer.the-variants as deliverAnswer
 use Rattle.node.specs.declared.Node.{Node as Record}
 use Rattle.causality.specs.Demand3.{World, counted, deliverAt, delivered, delivers, framesIn}
-use Rattle.world.proofs.Keeping.{end-room, holds-after, holds-later}
+use Rattle.world.proofs.Keeping.{end-room, holds-after, holds-later, stored-still}
 use Rattle.world.proofs.Logs.{begins-inside}
-use Rattle.world.proofs.Queues.{queue-here, queue-other, queue-text, queues-length}
+use Rattle.world.proofs.Queues.{queue-back, queue-here, queue-other, queue-part, queues-length}
 use Rattle.world.proofs.Reach.{reached-deliver}
 use Rattle.world.proofs.Sends.{goes-on}
 use Rattle.world.proofs.Told.{DeliverTold, DeliveredFacts, deliver-told, frames-joined, no-frames}
@@ -31,7 +30,7 @@ use Rattle.world.specs.declared.Outcome.{Outcome}
 use Rattle.world.specs.declared.Outcome.the-variants as outcome
 use Rattle.world.specs.declared.World.{World as Stored}
 use Rattle.world.specs.Steps.{AfterStep, afterDelivered, bodyOutput, deliverStep, exhausted, frameOutput, frames, issueFrom, refuse}
-use Rattle.world.specs.Stored.{Holds, joined, logSize, noRecord, queueAt, storedAfter}
+use Rattle.world.specs.Stored.{Holds, joined, logSize, maxSimulated, noRecord, queueAt, storedAfter}
 
 module _ (n cap limit k : ℕ) (w : World) (s : Stored) (q l : List ℕ) (h : Holds n cap limit k w s q l) (short : k + 1 < 1000000000) (j : ℕ) where
   -- what is asked of the code: the outcome and the stored world are the definition's
@@ -47,14 +46,11 @@ module _ (n cap limit k : ℕ) (w : World) (s : Stored) (q l : List ℕ) (h : Ho
 
   module _ (hj : j < n) (left : length (w .log) + n ≤ limit) (r : Record) (er : r ≡ getD (s .nodes) j noRecord) (width : ℕ) (ez : width ≡ queueSize)
       (a : Delivery) (p₁ out body : List ℕ) (e : afterDeliver a p₁ out body ≡ deliverCall r (take width (drop (queueSize * j) q)) frameOutput bodyOutput) (long : length p₁ ≡ length (take width (drop (queueSize * j) q))) where
-    ep : take width (drop (queueSize * j) q) ≡ queueAt q j
-    ep = ap (λ (x : ℕ). take x (drop (queueSize * j) q)) ez ∙ sym (queue-text q j)
-
     abbrev c : AfterDeliver
     c = deliverCall (w .records j) (w .queues j) frameOutput bodyOutput
 
     same : c ≡ afterDeliver a p₁ out body
-    same = sym (e ∙ ap₂ (λ (x : Record) (y : List ℕ). deliverCall x y frameOutput bodyOutput) (er ∙ h .records j hj) (ep ∙ h .queues j hj))
+    same = sym (e ∙ ap₂ (λ (x : Record) (y : List ℕ). deliverCall x y frameOutput bodyOutput) (er ∙ h .records j hj) (queue-part j width q ez ∙ h .queues j hj))
 
     deliver-goes : deliverStep n limit w j ≡ afterDelivered w j c (a .answer)
     unfolding deliverStep
@@ -69,32 +65,18 @@ module _ (n cap limit k : ℕ) (w : World) (s : Stored) (q l : List ℕ) (h : Ho
     tells : (x : DeliverAnswer) → a .answer ≡ x → counted (delivered (c .result .answer)) ≡ counted (delivered x)
     tells x t = ap (λ (y : DeliverAnswer). counted (delivered y)) (ap (λ (y : AfterDeliver). y .result .answer) same ∙ t)
 
-    abbrev q₂ : List ℕ
-    q₂ = take (queueSize * j) q ++ (p₁ ++ drop width (drop (queueSize * j) q))
-
+    -- the queues after the call
     abbrev q₁ : List ℕ
-    q₁ = take (queueSize * j) q ++ (p₁ ++ drop queueSize (drop (queueSize * j) q))
+    q₁ = take (queueSize * j) q ++ (p₁ ++ drop width (drop (queueSize * j) q))
 
-    q₂-same : q₁ ≡ q₂
-    q₂-same = ap (λ (x : ℕ). take (queueSize * j) q ++ (p₁ ++ drop x (drop (queueSize * j) q))) (sym ez)
+    few : j < maxSimulated
+    few = omega (arith, h .few)
 
-    p₁-long : length p₁ ≡ queueSize
-    unfolding queueAt
-    p₁-long = long ∙ ap length ep ∙ length-take-le queueSize (drop (queueSize * j) q) (omega (arith, length-drop (queueSize * j) q, h .size, h .few))
-
-    -- a queue that stayed as it was
-    put-back : c .queue ≡ w .queues j → q₁ ≡ q
-    put-back u =
-        ap (λ (y : List ℕ). take (queueSize * j) q ++ (y ++ drop queueSize (drop (queueSize * j) q))) (sym (ap (λ (x : AfterDeliver). x .queue) same) ∙ u ∙ sym (h .queues j hj) ∙ queue-text q j)
-        ∙ ap (λ (y : List ℕ). take (queueSize * j) q ++ y) (take-append-drop queueSize (drop (queueSize * j) q)) ∙ take-append-drop (queueSize * j) q
-
-    refused-here : (why : ℕ) → a .answer ≡ deliverAnswer.Refused why → DeliverDone (outcome.Refused why) s q₁ l
-    refused-here why t =
+    pub deliver-refused : (why : ℕ) → a .answer ≡ deliverAnswer.Refused why → DeliverDone (outcome.Refused why) s q₁ l
+    deliver-refused why t =
+        let u : p₁ ≡ queueAt q j = sym (ap (λ (x : AfterDeliver). x .queue) same) ∙ told (deliverAnswer.Refused why) t ∙ sym (h .queues j hj) in
         subst (λ (x : AfterStep). (outcome.Refused why ≡ x .outcome) × Holds n cap limit (k + 1) (x .world) s q₁ l) (sym (deliver-goes ∙ ap (afterDelivered w j c) t))
-        (refl, subst (λ (y : List ℕ). Holds n cap limit (k + 1) w s y l) (sym (put-back (told (deliverAnswer.Refused why) t))) (holds-later n cap limit k w s q l h))
-
-    pub deliver-refused : (why : ℕ) → a .answer ≡ deliverAnswer.Refused why → DeliverDone (outcome.Refused why) s q₂ l
-    deliver-refused why t = subst (λ (x : List ℕ). DeliverDone (outcome.Refused why) s x l) q₂-same (refused-here why t)
+        (refl, subst (λ (y : List ℕ). Holds n cap limit (k + 1) w s y l) (sym (queue-back j width q p₁ few (h .size) ez long u)) (holds-later n cap limit k w s q l h))
 
     -- the stored world after the call
     stored : (bytes : List ℕ) (count : ℕ) → joined (framesIn (take (counted (delivered (c .result .answer))) (c .out))) ≡ bytes → length (framesIn (take (counted (delivered (c .result .answer))) (c .out))) ≡ count
@@ -103,21 +85,19 @@ module _ (n cap limit k : ℕ) (w : World) (s : Stored) (q l : List ℕ) (h : Ho
     stored bytes count written many below fits s′ l′ es el =
         holds-after n cap limit k w s q l h short j hj (delivers j frameOutput bodyOutput) (c .result .node) (c .queue) (delivered (c .result .answer)) (c .out) q₁ bytes count
         (reached-deliver n cap k w (h .reached) j frameOutput bodyOutput hj)
-        (queues-length j q p₁ (omega (arith, h .few)) (h .size) p₁-long)
-        (queue-here j q p₁ (omega (arith, h .few)) (h .size) p₁-long ∙ sym (ap (λ (x : AfterDeliver). x .queue) same))
-        (λ x hx d. queue-other j q p₁ (omega (arith, h .few)) (h .size) p₁-long x d)
+        (queues-length j width q p₁ few (h .size) ez long)
+        (queue-here j width q p₁ few (h .size) ez long ∙ sym (ap (λ (x : AfterDeliver). x .queue) same))
+        (λ x hx d. queue-other j width q p₁ few (h .size) ez long x d)
         written many below fits s′ l′ es el
 
     -- the record as it was, put in its place
     unmoved : c .result .node ≡ w .records j → s ≡ storedAfter s j (c .result .node) 0 0
     unmoved u =
-        let nodes : s .nodes ≡ set (s .nodes) j (c .result .node) = sym (ap (set (s .nodes) j) (u ∙ sym (h .records j hj)) ∙ set-getD (s .nodes) j noRecord) in
-        let issued : s .issued ≡ s .issued + 0 = sym (add-zero (s .issued)) in
-        let end : s .end ≡ s .end + 0 = sym (add-zero (s .end)) in
-        λ z. record { n = s .n; nodes = nodes z; issued = issued z; end = end z }
+        let nodes : set (s .nodes) j (c .result .node) ≡ s .nodes = ap (set (s .nodes) j) (u ∙ sym (h .records j hj)) ∙ set-getD (s .nodes) j noRecord in
+        sym (stored-still s j (c .result .node) ∙ ap (λ (x : List Record). record { n = s .n; nodes = x; issued = s .issued; end = s .end }) nodes)
 
-    nothing-here : (tried : ℕ) → a .answer ≡ deliverAnswer.Nothing tried → DeliverDone (outcome.Nothing tried) s q₁ l
-    nothing-here tried t =
+    pub deliver-nothing : (tried : ℕ) → a .answer ≡ deliverAnswer.Nothing tried → DeliverDone (outcome.Nothing tried) s q₁ l
+    deliver-nothing tried t =
         let e₀ : counted (delivered (c .result .answer)) ≡ 0 = tells (deliverAnswer.Nothing tried) t in
         let u = told (deliverAnswer.Nothing tried) t in
         subst (λ (x : AfterStep). (outcome.Nothing tried ≡ x .outcome) × Holds n cap limit (k + 1) (x .world) s q₁ l) (sym (deliver-goes ∙ ap (afterDelivered w j c) t)) (
@@ -126,9 +106,6 @@ module _ (n cap limit k : ℕ) (w : World) (s : Stored) (q l : List ℕ) (h : Ho
               (ap (λ (x : ℕ). length (framesIn (take x (c .out)))) e₀ ∙ no-frames) (omega (arith, h .below))
               (omega (arith, h .end, begins-inside (frames (w .log)) l (h .begins))) s l (unmoved (u .1)) (sym (put-nil l (s .end))),
         )
-
-    pub deliver-nothing : (tried : ℕ) → a .answer ≡ deliverAnswer.Nothing tried → DeliverDone (outcome.Nothing tried) s q₂ l
-    deliver-nothing tried t = subst (λ (x : List ℕ). DeliverDone (outcome.Nothing tried) s x l) q₂-same (nothing-here tried t)
 
     module _ (d : Delivered) (t : a .answer ≡ deliverAnswer.Frame d) where
       facts : DeliveredFacts (c .out) d
@@ -144,9 +121,9 @@ module _ (n cap limit k : ℕ) (w : World) (s : Stored) (q l : List ℕ) (h : Ho
       unfolding logSize
       delivered-room = omega (arith, end-room n cap limit k w s q l h (omega arith), length-take-le (d .bytes) out delivered-inside, facts .most, h .room)
 
-      frame-here : (issue : ℕ) → issue ≡ issueFrom 1 (record { kind = d .kind; from = d .from; number = d .number }) j (frames (w .log)) → (s′ : Stored) (l′ : List ℕ)
+      pub deliver-frame : (issue : ℕ) → issue ≡ issueFrom 1 (record { kind = d .kind; from = d .from; number = d .number }) j (frames (w .log)) → (s′ : Stored) (l′ : List ℕ)
           → s′ ≡ storedAfter s j (a .node) (d .extras) (length (take (d .bytes) out)) → l′ ≡ write l (s .end) (take (d .bytes) out) → DeliverDone (outcome.Delivered issue (d .tried) (d .extras)) s′ q₁ l′
-      frame-here issue ei s′ l′ es el =
+      deliver-frame issue ei s′ l′ es el =
           let f = facts in
           let e₀ : counted (delivered (c .result .answer)) ≡ d .bytes = tells (deliverAnswer.Frame d) t in
           subst (λ (x : AfterStep). (outcome.Delivered issue (d .tried) (d .extras) ≡ x .outcome) × Holds n cap limit (k + 1) (x .world) s′ q₁ l′) (sym (deliver-goes ∙ ap (afterDelivered w j c) t)) (
@@ -157,8 +134,3 @@ module _ (n cap limit k : ℕ) (w : World) (s : Stored) (q l : List ℕ) (h : Ho
                 (omega (arith, f .few, h .range .atLeast2)) delivered-room s′ l′
                 (es ∙ ap (λ (x : AfterDeliver). storedAfter s j (x .result .node) (d .extras) (length (take (d .bytes) out))) (sym same)) el,
           )
-
-      pub deliver-frame : (issue : ℕ) → issue ≡ issueFrom 1 (record { kind = d .kind; from = d .from; number = d .number }) j (frames (w .log)) → (s′ : Stored) (l′ : List ℕ)
-          → s′ ≡ storedAfter s j (a .node) (d .extras) (length (take (d .bytes) out)) → l′ ≡ write l (s .end) (take (d .bytes) out) → DeliverDone (outcome.Delivered issue (d .tried) (d .extras)) s′ q₂ l′
-      deliver-frame issue ei s′ l′ es el =
-          subst (λ (x : List ℕ). DeliverDone (outcome.Delivered issue (d .tried) (d .extras)) s′ x l′) q₂-same (frame-here issue ei s′ l′ es el)

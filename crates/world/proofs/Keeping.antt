@@ -5,6 +5,7 @@ use mathlib.Core.Logic.{_≢_}
 use mathlib.Core.Option.{some}
 use mathlib.Core.Path.{_≡_, refl, sym, ap, ap₂, _∙_, subst}
 use native.Mathlib.Decide.{ℕ-discrete}
+use native.Mathlib.Nat.{add-zero}
 use native.Mathlib.Omega.{arith}
 use lib.ListN.{length, getD, set, take, drop, getElem?, length-set, length-append, length-map}
 use lib.Seq.{getD-set-same, getD-set-other, take-at}
@@ -73,6 +74,13 @@ holds-later n cap limit k w s q l h = record {
   begins = h .begins;
   end = h .end;
 }
+
+-- a call at node i that issues nothing
+pub stored-still : (s : Stored) (i : ℕ) (r : Record) → storedAfter s i r 0 0 ≡ record { n = s .n; nodes = set (s .nodes) i r; issued = s .issued; end = s .end }
+stored-still s i r =
+    let issued : s .issued + 0 ≡ s .issued = add-zero (s .issued) in
+    let end : s .end + 0 ≡ s .end = add-zero (s .end) in
+    λ z. record { n = s .n; nodes = set (s .nodes) i r; issued = issued z; end = end z }
 
 -- a call at node i
 module _ (n cap limit k : ℕ) (w : World) (s : Stored) (q l : List ℕ) (h : Holds n cap limit k w s q l) (short : k + 1 < 1000000000)

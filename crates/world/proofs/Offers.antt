@@ -4,30 +4,26 @@ use mathlib.Core.Bool.{Bool}
 use mathlib.Core.List.{List, [], _∷_, _++_}
 use mathlib.Core.Option.{Option, none, some}
 use mathlib.Core.Path.{_≡_, refl, sym, ap, ap₂, _∙_, subst}
-use native.Mathlib.Nat.{add-zero}
 use native.Mathlib.Omega.{arith}
-use lib.ListN.{length, getD, set, take, drop, getElem?, length-drop, take-append-drop}
-use lib.Seq.{length-take-le}
-use Rattle.wire.specs.Bytes.{put as write}
+use lib.ListN.{length, getD, set, take, drop, getElem?}
 use Rattle.wire.proofs.Bytes.{put-nil}
 use Rattle.holdback.specs.Slots.{queueSize}
 use Rattle.node.specs.Answers.{AfterOffer, afterOffer}
 use Rattle.node.specs.Calls.{offerCall}
 use Rattle.node.specs.declared.Node.{Node as Record}
 use Rattle.node.specs.declared.Offered.{Offered}
-use Rattle.node.specs.declared.OfferAnswer.{OfferAnswer}
 use Rattle.node.specs.declared.OfferAnswer.the-variants as offerAnswer
-use Rattle.causality.specs.Demand3.{Issue, World, destination, framesIn, offerAt, offered, offers}
-use Rattle.world.proofs.Keeping.{end-room, holds-after, holds-later, issue-at, issue-facts}
+use Rattle.causality.specs.Demand3.{Issue, World, destination, offerAt, offered, offers}
+use Rattle.world.proofs.Keeping.{holds-after, holds-later, issue-at, issue-facts, stored-still}
 use Rattle.world.proofs.Logs.{begins-inside}
-use Rattle.world.proofs.Queues.{queue-here, queue-other, queue-text, queues-length}
+use Rattle.world.proofs.Queues.{queue-back, queue-here, queue-other, queue-part, queues-length}
 use Rattle.world.proofs.Reach.{reached-offer}
 use Rattle.world.proofs.Told.{frames-joined, no-frames, offer-unmoved}
 use Rattle.world.specs.declared.Outcome.{Outcome}
 use Rattle.world.specs.declared.Outcome.the-variants as outcome
 use Rattle.world.specs.declared.World.{World as Stored}
 use Rattle.world.specs.Steps.{AfterStep, afterOffered, frames, offerStep, offerTo, refuse}
-use Rattle.world.specs.Stored.{Holds, Reached, logSize, noRecord, queueAt, storedAfter}
+use Rattle.world.specs.Stored.{Holds, Reached, maxSimulated, noRecord, queueAt, storedAfter}
 
 -- an issue past the last
 none-at : {A : Type 0} (l : List A) (p : ℕ) → length l ≤ p → getElem? l p ≡ none
@@ -75,9 +71,6 @@ module _ (n cap limit k : ℕ) (w : World) (s : Stored) (q l : List ℕ) (h : Ho
 
       module _ (r : Record) (er : r ≡ getD (s .nodes) j noRecord) (f : List ℕ) (ef : f ≡ frame) (width : ℕ) (ez : width ≡ queueSize) (a : Offered) (p₁ : List ℕ)
           (e : afterOffer a p₁ ≡ offerCall r f (take width (drop (queueSize * j) q))) (long : length p₁ ≡ length (take width (drop (queueSize * j) q))) where
-        ep : take width (drop (queueSize * j) q) ≡ queueAt q j
-        ep = ap (λ (x : ℕ). take x (drop (queueSize * j) q)) ez ∙ sym (queue-text q j)
-
         abbrev g : Issue
         g = issue-at (w .log) p (omega arith) .0
 
@@ -92,7 +85,7 @@ module _ (n cap limit k : ℕ) (w : World) (s : Stored) (q l : List ℕ) (h : Ho
 
         same : c ≡ afterOffer a p₁
         same =
-            sym (e ∙ ap (λ (x : Record). offerCall x f (take width (drop (queueSize * j) q))) (er ∙ h .records j offer-to) ∙ ap₂ (λ (x y : List ℕ). offerCall (w .records j) x y) ef (ep ∙ h .queues j offer-to))
+            sym (e ∙ ap (λ (x : Record). offerCall x f (take width (drop (queueSize * j) q))) (er ∙ h .records j offer-to) ∙ ap₂ (λ (x y : List ℕ). offerCall (w .records j) x y) ef (queue-part j width q ez ∙ h .queues j offer-to))
 
         -- the definition's step
         at-issue : offerStep w (suc p) ≡ afterOffered w j p c (c .result .answer)
@@ -107,53 +100,30 @@ module _ (n cap limit k : ℕ) (w : World) (s : Stored) (q l : List ℕ) (h : Ho
             let em : m ≡ suc p = omega arith in
             ap (offerStep w) em ∙ at-issue ∙ ap (λ (x : AfterOffer). afterOffered w j p c (x .result .answer)) same
 
-        abbrev q₂ : List ℕ
-        q₂ = take (queueSize * j) q ++ (p₁ ++ drop width (drop (queueSize * j) q))
-
+        -- the queues after the call
         abbrev q₁ : List ℕ
-        q₁ = take (queueSize * j) q ++ (p₁ ++ drop queueSize (drop (queueSize * j) q))
+        q₁ = take (queueSize * j) q ++ (p₁ ++ drop width (drop (queueSize * j) q))
 
-        q₂-same : q₁ ≡ q₂
-        q₂-same = ap (λ (x : ℕ). take (queueSize * j) q ++ (p₁ ++ drop x (drop (queueSize * j) q))) (sym ez)
+        few : j < maxSimulated
+        few = omega (arith, h .few, offer-to)
 
-        p₁-long : length p₁ ≡ queueSize
-        unfolding queueAt
-        p₁-long = long ∙ ap length ep ∙ length-take-le queueSize (drop (queueSize * j) q) (omega (arith, length-drop (queueSize * j) q, h .size, h .few, offer-to))
-
-        refused-here : (why : ℕ) → a .answer ≡ offerAnswer.Refused why → OfferDone (outcome.Refused why) s q₁
-        refused-here why t =
+        pub offer-refused : (why : ℕ) → a .answer ≡ offerAnswer.Refused why → OfferDone (outcome.Refused why) s q₁
+        offer-refused why t =
             let u : p₁ ≡ queueAt q j =
             sym (ap (λ (x : AfterOffer). x .queue) same) ∙ offer-unmoved (w .records j) frame (w .queues j) why (ap (λ (x : AfterOffer). x .result .answer) same ∙ t) ∙ sym (h .queues j offer-to) in
             subst (λ (x : AfterStep). (outcome.Refused why ≡ x .outcome) × Holds n cap limit (k + 1) (x .world) s q₁ l) (sym (goes ∙ ap (afterOffered w j p c) t))
-            (refl, subst (λ (y : List ℕ). Holds n cap limit (k + 1) w s y l) (sym (put-back u)) (holds-later n cap limit k w s q l h))
-          where
-            put-back : p₁ ≡ queueAt q j → q₁ ≡ q
-            put-back u =
-                ap (λ (y : List ℕ). take (queueSize * j) q ++ (y ++ drop queueSize (drop (queueSize * j) q))) (u ∙ queue-text q j)
-                ∙ ap (λ (y : List ℕ). take (queueSize * j) q ++ y) (take-append-drop queueSize (drop (queueSize * j) q)) ∙ take-append-drop (queueSize * j) q
+            (refl, subst (λ (y : List ℕ). Holds n cap limit (k + 1) w s y l) (sym (queue-back j width q p₁ few (h .size) ez long u)) (holds-later n cap limit k w s q l h))
 
-        end-inside : s .end + 0 ≤ length l
-        end-inside = omega (arith, h .end, begins-inside (frames (w .log)) l (h .begins))
-
-        held-here : (count : ℕ) (ready : Bool) → a .answer ≡ offerAnswer.Held count ready → (s′ : Stored) → s′ ≡ storedAfter s j (a .node) 0 0 → OfferDone (outcome.Held count ready) s′ q₁
-        held-here count ready t s′ es =
+        pub offer-held : (count : ℕ) (ready : Bool) → a .answer ≡ offerAnswer.Held count ready → (s′ : Stored) → s′ ≡ record { n = s .n; nodes = set (s .nodes) j (a .node); issued = s .issued; end = s .end }
+            → OfferDone (outcome.Held count ready) s′ q₁
+        offer-held count ready t s′ es =
             subst (λ (x : AfterStep). (outcome.Held count ready ≡ x .outcome) × Holds n cap limit (k + 1) (x .world) s′ q₁ l) (sym (goes ∙ ap (afterOffered w j p c) t)) (
               refl,
               holds-after n cap limit k w s q l h short j offer-to (offers j p) (c .result .node) (c .queue) (offered (c .result .answer)) [] q₁ [] 0
                   (subst (λ (x : List ℕ). Reached n cap (k + 1) (offerAt w j (offers j p) (offerCall (w .records j) x (w .queues j)))) (sym named) (reached-offer n cap k w (h .reached) j p g offer-to at))
-                  (queues-length j q p₁ (omega (arith, h .few, offer-to)) (h .size) p₁-long)
-                  (queue-here j q p₁ (omega (arith, h .few, offer-to)) (h .size) p₁-long ∙ sym (ap (λ (x : AfterOffer). x .queue) same))
-                  (λ x hx d. queue-other j q p₁ (omega (arith, h .few, offer-to)) (h .size) p₁-long x d)
-                  (frames-joined []) no-frames (omega (arith, h .below)) end-inside s′ l
-                  (es ∙ ap (λ (x : AfterOffer). storedAfter s j (x .result .node) 0 0) (sym same)) (sym (put-nil l (s .end))),
+                  (queues-length j width q p₁ few (h .size) ez long)
+                  (queue-here j width q p₁ few (h .size) ez long ∙ sym (ap (λ (x : AfterOffer). x .queue) same))
+                  (λ x hx d. queue-other j width q p₁ few (h .size) ez long x d)
+                  (frames-joined []) no-frames (omega (arith, h .below)) (omega (arith, h .end, begins-inside (frames (w .log)) l (h .begins))) s′ l
+                  (es ∙ sym (stored-still s j (a .node)) ∙ ap (λ (x : AfterOffer). storedAfter s j (x .result .node) 0 0) (sym same)) (sym (put-nil l (s .end))),
             )
-
-        pub offer-refused : (why : ℕ) → a .answer ≡ offerAnswer.Refused why → OfferDone (outcome.Refused why) s q₂
-        offer-refused why t = subst (OfferDone (outcome.Refused why) s) q₂-same (refused-here why t)
-
-        pub offer-held : (count : ℕ) (ready : Bool) → a .answer ≡ offerAnswer.Held count ready → (s′ : Stored) → s′ ≡ record { n = s .n; nodes = set (s .nodes) j (a .node); issued = s .issued; end = s .end }
-            → OfferDone (outcome.Held count ready) s′ q₂
-        offer-held count ready t s′ es =
-            let issued : s .issued ≡ s .issued + 0 = sym (add-zero (s .issued)) in
-            let end : s .end ≡ s .end + 0 = sym (add-zero (s .end)) in
-            subst (OfferDone (outcome.Held count ready) s′) q₂-same (held-here count ready t s′ (es ∙ (λ x. record { n = s .n; nodes = set (s .nodes) j (a .node); issued = issued x; end = end x })))

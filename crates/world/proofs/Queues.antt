@@ -12,10 +12,10 @@ use Rattle.wire.proofs.Tests.{decide}
 use Rattle.holdback.specs.Slots.{queueSize}
 use Rattle.world.specs.Stored.{maxSimulated, queueAt}
 
--- the text of the definition
-pub queue-text : (q : List ℕ) (i : ℕ) → queueAt q i ≡ take queueSize (drop (queueSize * i) q)
+-- the queue of node i, where its width is given as a number
+pub queue-part : (i width : ℕ) (q : List ℕ) → width ≡ queueSize → take width (drop (queueSize * i) q) ≡ queueAt q i
 unfolding queueAt
-queue-text q i = refl
+queue-part i width q e = ap (λ (x : ℕ). take x (drop (queueSize * i) q)) e
 
 -- the queue in the middle, and the others
 module _ (i x : ℕ) (before middle after : List ℕ) (lies : length before ≡ queueSize * i) (long : length middle ≡ queueSize) where
@@ -37,13 +37,16 @@ module _ (i x : ℕ) (before middle after : List ℕ) (lies : length before ≡ 
       ap (λ (z : ℕ). take queueSize (drop z (before ++ (middle ++ after)))) e
       ∙ ap (take queueSize) (drop-append-add before (middle ++ after) (length middle + k) ∙ drop-append-add middle after k)
 
--- the queue of node i written anew
-module _ (i : ℕ) (q p : List ℕ) (hi : i < maxSimulated) (size : length q ≡ queueSize * maxSimulated) (long : length p ≡ queueSize) where
+-- the queue of node i written anew, with bytes p, and the others as they are
+module _ (i width : ℕ) (q p : List ℕ) (hi : i < maxSimulated) (size : length q ≡ queueSize * maxSimulated) (wide : width ≡ queueSize) (long : length p ≡ length (take width (drop (queueSize * i) q))) where
   abbrev before : List ℕ
   before = take (queueSize * i) q
 
+  abbrev old : List ℕ
+  old = take width (drop (queueSize * i) q)
+
   abbrev after : List ℕ
-  after = drop queueSize (drop (queueSize * i) q)
+  after = drop width (drop (queueSize * i) q)
 
   abbrev new : List ℕ
   new = before ++ (p ++ after)
@@ -51,14 +54,17 @@ module _ (i : ℕ) (q p : List ℕ) (hi : i < maxSimulated) (size : length q ≡
   lies : length before ≡ queueSize * i
   lies = length-take-le (queueSize * i) q (omega arith)
 
-  old-long : length (take queueSize (drop (queueSize * i) q)) ≡ queueSize
-  old-long = length-take-le queueSize (drop (queueSize * i) q) (omega (arith, length-drop (queueSize * i) q))
+  old-long : length old ≡ queueSize
+  old-long = length-take-le width (drop (queueSize * i) q) (omega (arith, length-drop (queueSize * i) q)) ∙ wide
 
-  old : q ≡ before ++ (take queueSize (drop (queueSize * i) q) ++ after)
-  old = sym (take-append-drop (queueSize * i) q) ∙ ap (λ (z : List ℕ). before ++ z) (sym (take-append-drop queueSize (drop (queueSize * i) q)))
+  new-long : length p ≡ queueSize
+  new-long = long ∙ old-long
+
+  whole : q ≡ before ++ (old ++ after)
+  whole = sym (take-append-drop (queueSize * i) q) ∙ ap (λ (z : List ℕ). before ++ z) (sym (take-append-drop width (drop (queueSize * i) q)))
 
   pub queue-here : queueAt new i ≡ p
-  queue-here = middle-here i i before p after lies long
+  queue-here = middle-here i i before p after lies new-long
 
   pub queue-other : (x : ℕ) → x ≢ i → queueAt new x ≡ queueAt q x
   queue-other x h = go (decide (ltb x i))
@@ -66,12 +72,14 @@ module _ (i : ℕ) (q p : List ℕ) (hi : i < maxSimulated) (size : length q ≡
       go : T (ltb x i) ⊎ T (not (ltb x i)) → queueAt new x ≡ queueAt q x
       go (inl t) =
           let l : x < i = ltb→lt x i t in
-          middle-front i x before p after lies long l
-          ∙ sym (ap (λ (z : List ℕ). queueAt z x) old ∙ middle-front i x before (take queueSize (drop (queueSize * i) q)) after lies old-long l)
+          middle-front i x before p after lies new-long l ∙ sym (ap (λ (z : List ℕ). queueAt z x) whole ∙ middle-front i x before old after lies old-long l)
       go (inr t) =
           let l : i ≤ x = nltb→le x i t in
-          middle-behind i x before p after lies long (omega arith)
-          ∙ sym (ap (λ (z : List ℕ). queueAt z x) old ∙ middle-behind i x before (take queueSize (drop (queueSize * i) q)) after lies old-long (omega arith))
+          middle-behind i x before p after lies new-long (omega arith) ∙ sym (ap (λ (z : List ℕ). queueAt z x) whole ∙ middle-behind i x before old after lies old-long (omega arith))
 
   pub queues-length : length new ≡ length q
-  queues-length = omega (arith, lies, long, length-append before (p ++ after), length-append p after, length-drop queueSize (drop (queueSize * i) q), length-drop (queueSize * i) q)
+  queues-length = omega (arith, lies, new-long, length-append before (p ++ after), length-append p after, length-drop width (drop (queueSize * i) q), length-drop (queueSize * i) q)
+
+  -- the same bytes as before
+  pub queue-back : p ≡ queueAt q i → new ≡ q
+  queue-back e = ap (λ (y : List ℕ). before ++ (y ++ after)) (e ∙ sym (queue-part i width q wide)) ∙ sym whole
