@@ -1,7 +1,6 @@
 -- Laws of `simulation`, and document 01's example.
 pub mod Rows
 pub mod Outcomes
-pub mod Start
 pub mod Parsed
 pub mod Facts
 pub mod Concluding

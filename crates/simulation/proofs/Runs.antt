@@ -15,20 +15,21 @@ use Rattle.commands.specs.declared.FirstLine.{FirstLine}
 use Rattle.commands.specs.declared.FirstLine.the-variants as first
 use Rattle.holdback.specs.Slots.{queueSize, zeros}
 use Rattle.causality.specs.Demand3.{start}
+use Rattle.world.proofs.Starts.{holds-start}
 use Rattle.world.specs.Stored.{Holds, fresh, logSize, maxSimulated, startable}
 use Rattle.world.specs.declared.World.{World}
 use Rattle.simulation.specs.Run.{Fits, afterRun, outputSize, runCall}
 use Rattle.simulation.specs.Yard.{alone, lines, maxInput, maxIssues, ofLines, opened, output, started}
 use Rattle.simulation.specs.declared.Ran.{Ran}
 use Rattle.simulation.specs.declared.Ran.the-variants as ran
-use Rattle.simulation.proofs.Start.{array-zeros, holds-start}
 
 -- the start in two local arrays of zeros
 pub stored-start : (n c : ℕ) → startable n (c ∷ c ∷ c ∷ c ∷ []) ≡ true → (w : World) → w ≡ fresh n (c ∷ c ∷ c ∷ c ∷ []) → (i j : ℕ) → i ≡ queueSize * maxSimulated → j ≡ logSize maxIssues
     → Holds n c maxIssues 0 (start n c) w (replicate i 0) (replicate j 0)
+unfolding zeros
 stored-start n c s w e i j a b =
     subst (λ (x : World). Holds n c maxIssues 0 (start n c) x (replicate i 0) (replicate j 0)) (sym e)
-    (holds-start n c maxIssues s (replicate i 0) (replicate j 0) (array-zeros i ∙ ap zeros a) (length-replicate j 0 ∙ b))
+    (holds-start n c maxIssues s (replicate i 0) (replicate j 0) (ap zeros a) (length-replicate j 0 ∙ b))
 
 -- a first line's sizes in range, or not
 pub started-yes : (n c : ℕ) (ls : List (List ℕ)) → startable n (c ∷ c ∷ c ∷ c ∷ []) ≡ true → started (first.Sizes n c) ls ≡ lines n (opened n c) ls

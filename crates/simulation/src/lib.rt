@@ -84,7 +84,7 @@ fn run_sizes(n: usize, cap: usize, input: &[u8], at: usize, out: &mut [u8]) -> u
     requires { ⌜ (at ≤ length (now input)) × (length (now input) ≤ maxInput) × (outputSize ≤ length (now out)) ⌝ }
     ensures { λ r. ⌜ (r ≤ outputSize) × WroteWhole (started (first.Sizes n cap) (split 10 (drop at (now (input .entry))))) (now (out .entry)) r (now (out .exit)) ⌝ }
 {
-    let caps = [cap; 4];
+    let caps = [cap; world::MAX_SIMULATED];
     if !world::start::startable(n, caps) {
         return print::put_refusal(out, 0, 17);
     }

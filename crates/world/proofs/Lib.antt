@@ -1,9 +1,10 @@
--- Laws of `world`: frames in a log, what a call's answer tells, worlds that a list leads to, and a world that stays stored.
+-- Laws of `world`: frames in a log, what a call's answer tells, worlds that a list leads to, and a world that is stored at the start and stays so.
 pub mod Logs
 pub mod Told
 pub mod Reach
 pub mod Keeping
 pub mod Queues
+pub mod Starts
 pub mod Sends
 pub mod Offers
 pub mod Delivers

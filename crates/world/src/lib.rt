@@ -14,7 +14,7 @@ pub const MAX_SIMULATED: usize = 4;
 /// The records of the first n nodes, how many frames are issued, and where the last of them ends in the log.
 pub struct World {
     pub n: usize,
-    pub nodes: [Node; 4],
+    pub nodes: [Node; MAX_SIMULATED],
     pub issued: usize,
     pub end: usize,
 }

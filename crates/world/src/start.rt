@@ -1,4 +1,5 @@
 //! The start of a simulation.
+use super::MAX_SIMULATED;
 use super::World;
 use node::Node;
 use node::SetUpAnswer;
@@ -6,12 +7,12 @@ ghost use mathlib.Core.Path.{_≡_};
 ghost use Rattle.world.specs.Stored.{capTaken, fresh, startable};
 
 /// The world of n nodes, each with its cap, as set-up leaves them; the other records are all zero.
-pub fn fresh(n: usize, caps: [usize; 4]) -> World
+pub fn fresh(n: usize, caps: [usize; MAX_SIMULATED]) -> World
     ensures { λ r. ⌜ r ≡ fresh n caps ⌝ }
 {
     let first = Node::set_up(0, n, caps[0]);
     let record = first.node;
-    let mut nodes = [record; 4];
+    let mut nodes = [record; MAX_SIMULATED];
     let second = Node::set_up(1, n, caps[1]);
     let other = second.node;
     nodes[1] = other;
@@ -45,13 +46,13 @@ fn cap_taken(i: usize, n: usize, cap: usize) -> bool
 }
 
 /// Whether n is 2 to 4 and set-up takes each node's cap.
-pub fn startable(n: usize, caps: [usize; 4]) -> bool
+pub fn startable(n: usize, caps: [usize; MAX_SIMULATED]) -> bool
     ensures { λ r. ⌜ r ≡ startable n caps ⌝ }
 {
     if n < 2 {
         return false;
     }
-    if 4 < n {
+    if MAX_SIMULATED < n {
         return false;
     }
     if !cap_taken(0, n, caps[0]) {

@@ -6,7 +6,7 @@ use mathlib.Core.Logic.{_⊎_, inl, inr}
 use mathlib.Core.Path.{_≡_, refl, sym, ap, _∙_}
 use native.Mathlib.Omega.{arith}
 use lib.Dec.{T, leb, leb→le}
-use lib.ListN.{length, getD, take, replicate}
+use lib.ListN.{length, getD, take}
 use lib.Seq.{take-at}
 use Rattle.wire.proofs.Tests.{and-T, of-true, or-T}
 use Rattle.matrix.specs.Message.{InRange}
@@ -18,13 +18,8 @@ use Rattle.node.specs.SetUp.{freshRecord, setUp}
 use Rattle.node.specs.declared.SetUp.{SetUp}
 use Rattle.node.specs.declared.SetUpAnswer.the-variants.{Refused, Ready}
 use Rattle.causality.specs.Demand3.{start}
 use Rattle.world.proofs.Logs.{joined-none}
 use Rattle.world.specs.Stored.{Holds, capTaken, fresh, isReady, logSize, maxSimulated, noRecord, queueAt, startable}
-
--- a local array of zeros
-pub array-zeros : (k : ℕ) → replicate k 0 ≡ zeros k
-unfolding zeros
-array-zeros k = refl
 
 -- set-up that is ready was given numbers in range
 ready-range : (me n c : ℕ) → T (isReady (setUp me n c .answer)) → inRange me n c ≡ true
@@ -44,11 +39,11 @@ fresh-queue k i h =
     ap (take queueSize) (zeros-drop (queueSize * i) k (omega arith) ∙ ap zeros e ∙ sym (zeros-add queueSize r)) ∙ take-at (zeros queueSize) (zeros r) queueSize (length-zeros queueSize)
 
 -- n is 2 to 4, and n and the cap are in range
-pub record Opens (n c : ℕ) : Type 0 where
+record Opens (n c : ℕ) : Type 0 where
   pub few : n ≤ maxSimulated
   pub range : InRange n c
 
-pub opens : (n c : ℕ) → startable n (c ∷ c ∷ c ∷ c ∷ []) ≡ true → Opens n c
+opens : (n c : ℕ) → startable n (c ∷ c ∷ c ∷ c ∷ []) ≡ true → Opens n c
 unfolding startable capTaken
 opens n c s =
     let t₃ = and-T (leb 2 n && leb n maxSimulated && capTaken n 0 c && capTaken n 1 c && capTaken n 2 c) (capTaken n 3 c) (of-true _ s) in
