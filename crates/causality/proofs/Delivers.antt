@@ -15,11 +15,11 @@ use Rattle.causality.proofs.Queues.{Bodies, frames-back, queue-length}
 use Rattle.causality.proofs.Records.{record-kept}
 use Rattle.causality.specs.Demand3.{delivered}
 use Rattle.frame.specs.Frame.{encode}
-use Rattle.frame.specs.Frames.{framesOf}
 use Rattle.holdback.specs.Check.{wrongQueue}
 use Rattle.holdback.specs.Slots.{heldMessages, laid, queueSize, without}
 use Rattle.matrix.specs.Matrix.{Matrix, merge}
 use Rattle.matrix.specs.Message.{Kind, Message, extra, user}
+use Rattle.node.proofs.Told.{learn-room}
 use Rattle.node.specs.Answers.{AfterDeliver}
 use Rattle.node.specs.Calls.{acceptDeliver, deliverCall, refuseDeliver}
 use Rattle.node.specs.Sizes.{outSize}
@@ -31,7 +31,6 @@ use Rattle.protocol.proofs.Lists.{at-none}
 use Rattle.protocol.specs.Node.{atLimit}
 use Rattle.protocol.specs.Offer.{deliverable}
 use Rattle.wire.proofs.Bytes.{small-bytes}
-use Rattle.trim.proofs.Bounds.{trim-bytes}
 use Rattle.wire.proofs.Tests.{cond-no, cond-yes, decide, eq→eqb, le→nltb, not-or, T-not-not}
 use Rattle.wire.specs.Bytes.{AllBytes}
 use Rattle.protocol.specs.Deliver.{Search, absent, found, past, search, conclude, deliver, learn}
@@ -65,12 +64,7 @@ search-left p (a ∷ l) k m others e = go (decide (p a)) (search p l) refl (λ k
         let x = ih k₁ m₁ l₁ q in
         (suc (x .0), sym c ∙ ap suc (x .1), ap (map encode) (sym b) ∙ ap (λ (y : List (List ℕ)). encode a ∷ y) (x .2))
 
--- what a delivery issues fits, and has no body
-learn-room : (k : Kind) (d : MessageNode) (e : Matrix) → length (framesOf ((learn k d e) .extras)) ≤ 1008
-unfolding framesOf
-learn-room user d e = trim-bytes 12 (d .me) (d .n) (d .cap) (merge (d .me) (d .matrix) e)
-learn-room extra d e = omega arith
-
+-- what a delivery issues has no body
 learn-bare : (k : Kind) (d : MessageNode) (e : Matrix) (p : ℕ) (f : Message) → getElem? ((learn k d e) .extras) p ≡ some f → f .body ≡ []
 learn-bare user d e p f a = trim-bare 12 (d .me) (d .n) (d .cap) (merge (d .me) (d .matrix) e) p f a
 learn-bare extra d e p f a = absurd (at-none p f a)

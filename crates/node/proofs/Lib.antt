@@ -4,3 +4,4 @@ pub mod Sending
 pub mod Offering
 pub mod Delivering
 pub mod Taking
+pub mod Told

@@ -1,5 +1,4 @@
 -- Laws that the proofs of this crate cite.
 pub mod Numbers
 pub mod Images
-pub mod Small
 pub mod Told

@@ -4,6 +4,8 @@ use mathlib.Core.Bool.{Bool, cond, false, true}
 use mathlib.Core.List.{List, [], _∷_}
 use mathlib.Core.Path.{_∙_, _≡_, ap, ap₂, refl, subst, sym}
 use mir.Val.{boolByte}
+use Rattle.node.proofs.Told.{DeliverTold, OfferTold, SendTold}
+use Rattle.node.proofs.Told as node
 use Rattle.node.specs.declared.Node.{Node as Record}
 use Rattle.node.specs.declared.SetUp.{SetUp}
 use Rattle.node.specs.declared.SetUpAnswer.{SetUpAnswer}
@@ -20,7 +22,6 @@ use Rattle.node.specs.declared.DeliverAnswer.the-variants as deliverAnswer
 use Rattle.node.specs.Answers.{AfterSend, AfterOffer, AfterDeliver, afterSend, afterOffer, afterDeliver, setUpNumber}
 use Rattle.node.specs.SetUp.{setUp}
 use Rattle.node.specs.Calls.{sendCall, offerCall, deliverCall}
-use Rattle.node_c.proofs.Small.{DeliverSmall, OfferSmall, SendSmall, deliver-small, offer-small, send-small}
 use Rattle.node_c.specs.Exports.{deliverLeft, deliverTold, deliveryValues, exportedDeliver, exportedOffer, exportedSend, exportedSetUp, offerLeft, offerTold, sendLeft, sendTold, setUpLeft}
 use Rattle.node_c.specs.Image.{image, recordIn}
 
@@ -68,12 +69,14 @@ pub deliver-stored : (i queue out body values : List ℕ) (r : Record) (s : Deli
 deliver-stored i queue out body values r s queue₁ out₁ body₁ p e d t i₁ q =
     ap (λ (x : List ℕ). deliverLeft 0 x queue₁ out₁ body₁ (deliveryValues d)) q ∙ deliver-told i queue out body values r s queue₁ out₁ body₁ p e (deliverAnswer.Frame d) t
 
--- the values of an accepted call fit the lent numbers
-pub send-fits : (to : ℕ) (body out : List ℕ) (r : Record) (s : Sent) (out₁ : List ℕ) → afterSend s out₁ ≡ sendCall r to body out → (a : SendAnswer) → s .answer ≡ a → SendSmall a
-send-fits to body out r s out₁ e a t = subst SendSmall (ap (λ (c : AfterSend). c .result .answer) (sym e) ∙ t) (send-small r to body out)
+-- what the node's answer tells: the values of an accepted call fit the lent numbers
+pub send-fits : (to : ℕ) (body out : List ℕ) (r : Record) (s : Sent) (out₁ : List ℕ) → afterSend s out₁ ≡ sendCall r to body out → (a : SendAnswer) → s .answer ≡ a → SendTold out a (afterSend s out₁)
+send-fits to body out r s out₁ e a t = subst (λ (x : SendAnswer). SendTold out x (afterSend s out₁)) t (subst (λ (c : AfterSend). SendTold out (c .result .answer) c) (sym e) (node.send-told r to body out))
 
-pub offer-fits : (frame queue : List ℕ) (r : Record) (s : Offered) (queue₁ : List ℕ) → afterOffer s queue₁ ≡ offerCall r frame queue → (a : OfferAnswer) → s .answer ≡ a → OfferSmall a
-offer-fits frame queue r s queue₁ e a t = subst OfferSmall (ap (λ (c : AfterOffer). c .result .answer) (sym e) ∙ t) (offer-small r frame queue)
+pub offer-fits : (frame queue : List ℕ) (r : Record) (s : Offered) (queue₁ : List ℕ) → afterOffer s queue₁ ≡ offerCall r frame queue → (a : OfferAnswer) → s .answer ≡ a → OfferTold queue a (afterOffer s queue₁)
+offer-fits frame queue r s queue₁ e a t = subst (λ (x : OfferAnswer). OfferTold queue x (afterOffer s queue₁)) t (subst (λ (c : AfterOffer). OfferTold queue (c .result .answer) c) (sym e) (node.offer-told r frame queue))
 
-pub deliver-fits : (queue out body : List ℕ) (r : Record) (s : Delivery) (queue₁ out₁ body₁ : List ℕ) → afterDeliver s queue₁ out₁ body₁ ≡ deliverCall r queue out body → (a : DeliverAnswer) → s .answer ≡ a → DeliverSmall a
-deliver-fits queue out body r s queue₁ out₁ body₁ e a t = subst DeliverSmall (ap (λ (c : AfterDeliver). c .result .answer) (sym e) ∙ t) (deliver-small r queue out body)
+pub deliver-fits : (queue out body : List ℕ) (r : Record) (s : Delivery) (queue₁ out₁ body₁ : List ℕ) → afterDeliver s queue₁ out₁ body₁ ≡ deliverCall r queue out body → (a : DeliverAnswer) → s .answer ≡ a
+    → DeliverTold r queue out a (afterDeliver s queue₁ out₁ body₁)
+deliver-fits queue out body r s queue₁ out₁ body₁ e a t =
+    subst (λ (x : DeliverAnswer). DeliverTold r queue out x (afterDeliver s queue₁ out₁ body₁)) t (subst (λ (c : AfterDeliver). DeliverTold r queue out (c .result .answer) c) (sym e) (node.deliver-told r queue out body))

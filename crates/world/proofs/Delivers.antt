@@ -9,10 +9,9 @@ use lib.ListN.{length, getD, set, take, drop}
 use lib.Seq.{length-take-le, set-getD}
 use Rattle.wire.proofs.Bytes.{put-nil}
 use Rattle.wire.specs.Bytes.{put as write}
-use Rattle.holdback.proofs.Slots.{length-zeros}
 use Rattle.holdback.specs.Slots.{queueSize}
+use Rattle.node.proofs.Told.{DeliverTold, DeliveredFacts, deliver-told}
 use Rattle.node.specs.Answers.{AfterDeliver, afterDeliver}
-use Rattle.node.specs.Sizes.{outSize}
 use Rattle.node.specs.Calls.{deliverCall}
 use Rattle.node.specs.declared.Delivered.{Delivered}
 use Rattle.node.specs.declared.Delivery.{Delivery}
@@ -25,7 +24,7 @@ use Rattle.world.proofs.Logs.{begins-inside}
 use Rattle.world.proofs.Queues.{queue-back, queue-here, queue-other, queue-part, queues-length}
 use Rattle.world.proofs.Reach.{reached-deliver}
 use Rattle.world.proofs.Sends.{goes-on}
-use Rattle.world.proofs.Told.{DeliverTold, DeliveredFacts, deliver-told, frames-joined, no-frames}
+use Rattle.world.proofs.Told.{frames-joined, no-frames, wrote-frames}
 use Rattle.world.specs.declared.Outcome.{Outcome}
 use Rattle.world.specs.declared.Outcome.the-variants as outcome
 use Rattle.world.specs.declared.World.{World as Stored}
@@ -57,10 +56,10 @@ module _ (n cap limit k : ℕ) (w : World) (s : Stored) (q l : List ℕ) (h : Ho
     deliver-goes = rw (goes-on n limit j w hj left) (ap (λ (x : AfterDeliver). afterDelivered w j c (x .result .answer)) same)
 
     -- what the answer tells
-    told : (x : DeliverAnswer) → a .answer ≡ x → DeliverTold (w .records j) (w .queues j) x c
+    told : (x : DeliverAnswer) → a .answer ≡ x → DeliverTold (w .records j) (w .queues j) frameOutput x c
     told x t =
-        subst (λ (y : DeliverAnswer). DeliverTold (w .records j) (w .queues j) y c) (ap (λ (y : AfterDeliver). y .result .answer) same ∙ t)
-        (deliver-told (w .records j) (w .queues j) frameOutput bodyOutput (omega (arith, length-zeros outSize)))
+        subst (λ (y : DeliverAnswer). DeliverTold (w .records j) (w .queues j) frameOutput y c) (ap (λ (y : AfterDeliver). y .result .answer) same ∙ t)
+        (deliver-told (w .records j) (w .queues j) frameOutput bodyOutput)
 
     tells : (x : DeliverAnswer) → a .answer ≡ x → counted (delivered (c .result .answer)) ≡ counted (delivered x)
     tells x t = ap (λ (y : DeliverAnswer). counted (delivered y)) (ap (λ (y : AfterDeliver). y .result .answer) same ∙ t)
@@ -104,15 +103,15 @@ module _ (n cap limit k : ℕ) (w : World) (s : Stored) (q l : List ℕ) (h : Ho
           refl,
           stored [] 0 (frames-joined (take (counted (delivered (c .result .answer))) (c .out)) ∙ ap (λ (x : ℕ). take x (c .out)) e₀)
               (ap (λ (x : ℕ). length (framesIn (take x (c .out)))) e₀ ∙ no-frames) (omega (arith, h .below))
-              (omega (arith, h .end, begins-inside (frames (w .log)) l (h .begins))) s l (unmoved (u .1)) (sym (put-nil l (s .end))),
+              (omega (arith, h .end, begins-inside (frames (w .log)) l (h .begins))) s l (unmoved (u .2)) (sym (put-nil l (s .end))),
         )
 
     module _ (d : Delivered) (t : a .answer ≡ deliverAnswer.Frame d) where
-      facts : DeliveredFacts (c .out) d
+      facts : DeliveredFacts frameOutput (c .out) d
       facts = told (deliverAnswer.Frame d) t
 
       pub delivered-inside : d .bytes ≤ length out
-      delivered-inside = subst (λ (x : List ℕ). d .bytes ≤ length x) (ap (λ (x : AfterDeliver). x .out) same) (facts .inside)
+      delivered-inside = subst (λ (x : List ℕ). d .bytes ≤ length x) (ap (λ (x : AfterDeliver). x .out) same) (facts .wrote .inside)
 
       pub delivered-few : d .extras ≤ 12
       delivered-few = facts .few
@@ -130,7 +129,7 @@ module _ (n cap limit k : ℕ) (w : World) (s : Stored) (q l : List ℕ) (h : Ho
             ap (λ (x : ℕ). outcome.Delivered x (d .tried) (d .extras)) ei,
             stored (take (d .bytes) out) (d .extras)
                 (frames-joined (take (counted (delivered (c .result .answer))) (c .out)) ∙ ap₂ (λ (x : ℕ) (y : List ℕ). take x y) e₀ (ap (λ (x : AfterDeliver). x .out) same))
-                (ap (λ (x : ℕ). length (framesIn (take x (c .out)))) e₀ ∙ f .frames)
+                (ap (λ (x : ℕ). length (framesIn (take x (c .out)))) e₀ ∙ wrote-frames (f .wrote) ∙ f .many)
                 (omega (arith, f .few, h .range .atLeast2)) delivered-room s′ l′
                 (es ∙ ap (λ (x : AfterDeliver). storedAfter s j (x .result .node) (d .extras) (length (take (d .bytes) out))) (sym same)) el,
           )

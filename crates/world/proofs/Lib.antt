@@ -1,4 +1,4 @@
--- Laws of `world`: frames in a log, what a call's answer tells, worlds that a list leads to, and a world that is stored at the start and stays so.
+-- Laws of `world`: frames in a log, the frames that a call wrote, worlds that a list leads to, and a world that is stored at the start and stays so.
 pub mod Logs
 pub mod Told
 pub mod Reach

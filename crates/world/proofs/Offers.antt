@@ -8,17 +8,19 @@ use native.Mathlib.Omega.{arith}
 use lib.ListN.{length, getD, set, take, drop, getElem?}
 use Rattle.wire.proofs.Bytes.{put-nil}
 use Rattle.holdback.specs.Slots.{queueSize}
+use Rattle.node.proofs.Told.{OfferTold, offer-told}
 use Rattle.node.specs.Answers.{AfterOffer, afterOffer}
 use Rattle.node.specs.Calls.{offerCall}
 use Rattle.node.specs.declared.Node.{Node as Record}
 use Rattle.node.specs.declared.Offered.{Offered}
+use Rattle.node.specs.declared.OfferAnswer.{OfferAnswer}
 use Rattle.node.specs.declared.OfferAnswer.the-variants as offerAnswer
 use Rattle.causality.specs.Demand3.{Issue, World, destination, offerAt, offered, offers}
 use Rattle.world.proofs.Keeping.{holds-after, holds-later, issue-at, issue-facts, stored-still}
 use Rattle.world.proofs.Logs.{begins-inside}
 use Rattle.world.proofs.Queues.{queue-back, queue-here, queue-other, queue-part, queues-length}
 use Rattle.world.proofs.Reach.{reached-offer}
-use Rattle.world.proofs.Told.{frames-joined, no-frames, offer-unmoved}
+use Rattle.world.proofs.Told.{frames-joined, no-frames}
 use Rattle.world.specs.declared.Outcome.{Outcome}
 use Rattle.world.specs.declared.Outcome.the-variants as outcome
 use Rattle.world.specs.declared.World.{World as Stored}
@@ -109,8 +111,9 @@ module _ (n cap limit k : ℕ) (w : World) (s : Stored) (q l : List ℕ) (h : Ho
 
         pub offer-refused : (why : ℕ) → a .answer ≡ offerAnswer.Refused why → OfferDone (outcome.Refused why) s q₁
         offer-refused why t =
-            let u : p₁ ≡ queueAt q j =
-            sym (ap (λ (x : AfterOffer). x .queue) same) ∙ offer-unmoved (w .records j) frame (w .queues j) why (ap (λ (x : AfterOffer). x .result .answer) same ∙ t) ∙ sym (h .queues j offer-to) in
+            let told : c .queue ≡ w .queues j =
+            subst (λ (x : OfferAnswer). OfferTold (w .queues j) x c) (ap (λ (x : AfterOffer). x .result .answer) same ∙ t) (offer-told (w .records j) frame (w .queues j)) in
+            let u : p₁ ≡ queueAt q j = sym (ap (λ (x : AfterOffer). x .queue) same) ∙ told ∙ sym (h .queues j offer-to) in
             subst (λ (x : AfterStep). (outcome.Refused why ≡ x .outcome) × Holds n cap limit (k + 1) (x .world) s q₁ l) (sym (goes ∙ ap (afterOffered w j p c) t))
             (refl, subst (λ (y : List ℕ). Holds n cap limit (k + 1) w s y l) (sym (queue-back j width q p₁ few (h .size) ez long u)) (holds-later n cap limit k w s q l h))
 

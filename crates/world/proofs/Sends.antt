@@ -9,6 +9,7 @@ use lib.Dec.{leb, ltb}
 use lib.ListN.{length, getD, take}
 use lib.Seq.{length-take-le}
 use Rattle.wire.specs.Bytes.{put as write}
+use Rattle.node.proofs.Told.{SendTold, SentFacts, send-told}
 use Rattle.node.specs.Answers.{AfterSend, afterSend}
 use Rattle.node.specs.Calls.{sendCall}
 use Rattle.node.specs.declared.Node.{Node as Record}
@@ -18,7 +19,7 @@ use Rattle.node.specs.declared.SendAnswer.the-variants as sendAnswer
 use Rattle.causality.specs.Demand3.{World, counted, framesIn, sent, sends}
 use Rattle.world.proofs.Keeping.{end-room, holds-after, holds-later}
 use Rattle.world.proofs.Reach.{reached-send}
-use Rattle.world.proofs.Told.{SentFacts, frames-joined, sent-told}
+use Rattle.world.proofs.Told.{frames-joined, wrote-frames}
 use Rattle.world.specs.declared.Outcome.{Outcome}
 use Rattle.world.specs.declared.Outcome.the-variants as outcome
 use Rattle.world.specs.declared.World.{World as Stored}
@@ -67,25 +68,22 @@ module _ (n cap limit k : ℕ) (w : World) (s : Stored) (q l : List ℕ) (h : Ho
       told : c .result .answer ≡ sendAnswer.Sent bytes extras
       told = ap (λ (x : AfterSend). x .result .answer) same ∙ t
 
-      facts : SentFacts (c .out) bytes extras
-      facts = sent-told (w .records i) j frameOutput bytes extras told
+      facts : SentFacts frameOutput (c .out) bytes extras
+      facts = subst (λ (x : SendAnswer). SendTold frameOutput x c) told (send-told (w .records i) j [] frameOutput)
 
       tells : counted (sent (c .result .answer)) ≡ bytes
       tells = ap (λ (x : SendAnswer). counted (sent x)) told
 
       -- what is written fits the log, and the frames can be counted
+      pub sent-inside : bytes ≤ length out
+      sent-inside = subst (λ (x : List ℕ). bytes ≤ length x) (ap (λ (x : AfterSend). x .out) same) (facts .wrote .inside)
+
       pub sent-room : s .end + length (take bytes out) ≤ length l
       unfolding logSize
-      sent-room =
-          let f = facts in
-          let b : bytes ≤ length out = subst (λ (x : List ℕ). bytes ≤ length x) (ap (λ (x : AfterSend). x .out) same) (f .inside) in
-          omega (arith, end-room n cap limit k w s q l h (omega arith), length-take-le bytes out b, f .most, h .room)
+      sent-room = omega (arith, end-room n cap limit k w s q l h (omega arith), length-take-le bytes out sent-inside, facts .most, h .room)
 
       pub sent-few : extras ≤ 12
       sent-few = facts .few
-
-      pub sent-inside : bytes ≤ length out
-      sent-inside = subst (λ (x : List ℕ). bytes ≤ length x) (ap (λ (x : AfterSend). x .out) same) (facts .inside)
 
       pub send-sent : (s′ : Stored) (l′ : List ℕ) → s′ ≡ storedAfter s i (a .node) (1 + extras) (length (take bytes out)) → l′ ≡ write l (s .end) (take bytes out) → SendDone (outcome.Sent extras) s′ l′
       send-sent s′ l′ es el =
@@ -95,7 +93,7 @@ module _ (n cap limit k : ℕ) (w : World) (s : Stored) (q l : List ℕ) (h : Ho
             holds-after n cap limit k w s q l h short i hi (sends i j [] frameOutput) (c .result .node) (w .queues i) (sent (c .result .answer)) (c .out) q (take bytes out) (1 + extras)
                 (reached-send n cap k w (h .reached) i j frameOutput hi) refl (h .queues i hi) (λ x hx z. refl)
                 (frames-joined (take (counted (sent (c .result .answer))) (c .out)) ∙ ap₂ (λ (x : ℕ) (y : List ℕ). take x y) tells (ap (λ (x : AfterSend). x .out) same))
-                (ap (λ (x : ℕ). length (framesIn (take x (c .out)))) tells ∙ f .frames)
+                (ap (λ (x : ℕ). length (framesIn (take x (c .out)))) tells ∙ wrote-frames (f .wrote) ∙ f .many)
                 (omega (arith, f .few, h .range .atLeast2)) sent-room s′ l′
                 (es ∙ ap (λ (x : AfterSend). storedAfter s i (x .result .node) (1 + extras) (length (take bytes out))) (sym same)) el,
           )

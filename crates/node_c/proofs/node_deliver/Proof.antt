@@ -1,15 +1,9 @@
 -- The record is loaded, the node delivers, and what a delivery leaves is stored. Assumes nothing.
 use native.Mathlib.Omega.{arith}
-use Rattle.node_c.proofs.Small.{DeliverSmall}
 use Rattle.node_c.proofs.Told.{deliver-fits, deliver-stored, deliver-told}
-use Rattle.node.specs.declared.DeliverAnswer.the-variants.{Frame}
 use borrow.Author.Needs.{needs}
 use Rattle.node_c.proofs.node_deliver.Statement.{statement}
 use Rattle.node_c.proofs.node_deliver.Tie as tie
-
--- the values of a delivery
-small : (c : tie.After-answer3) → DeliverSmall (Frame (c .answer3 .given .0 .0))
-small c = let d = c .before .before .before .before .before .before .before .before in deliver-fits _ _ _ _ _ _ _ _ (d .deliver .ensures) _ (c .answer3 .given .1)
 
 load-requires : tie.Need-load-requires
 load-requires c κs = search needs
@@ -27,7 +21,7 @@ cast-t22 : tie.Need-cast-t22
 cast-t22 c =
     let a = c .before in
     let d = a .before .before .before .before .before .before .before .before in
-    record { fits = omega (arith, deliver-fits _ _ _ _ _ _ _ _ (d .deliver .ensures) _ (a .answer2 .given .1)) }
+    record { fits = omega (arith, deliver-fits _ _ _ _ _ _ _ _ (d .deliver .ensures) _ (a .answer2 .given .1) .0) }
 
 enum-known-answer-3 : tie.Need-enum-known-answer-3
 enum-known-answer-3 c = search needs
@@ -42,16 +36,28 @@ cast-t27 : tie.Need-cast-t27
 cast-t27 c = search needs
 
 cast-t28 : tie.Need-cast-t28
-cast-t28 c = record { fits = omega (arith, small (c .before .before .before .before .before .before .before) .0) }
+cast-t28 c =
+    let a = c .before .before .before .before .before .before .before in
+    let d = a .before .before .before .before .before .before .before .before in
+    record { fits = omega (arith, deliver-fits _ _ _ _ _ _ _ _ (d .deliver .ensures) _ (a .answer3 .given .1) .tried) }
 
 cast-t29 : tie.Need-cast-t29
-cast-t29 c = record { fits = omega (arith, small (c .before .before .before .before .before .before .before .before) .1) }
+cast-t29 c =
+    let a = c .before .before .before .before .before .before .before .before in
+    let d = a .before .before .before .before .before .before .before .before in
+    record { fits = omega (arith, deliver-fits _ _ _ _ _ _ _ _ (d .deliver .ensures) _ (a .answer3 .given .1) .body) }
 
 cast-t30 : tie.Need-cast-t30
-cast-t30 c = record { fits = omega (arith, small (c .before .before .before .before .before .before .before .before .before) .2) }
+cast-t30 c =
+    let a = c .before .before .before .before .before .before .before .before .before in
+    let d = a .before .before .before .before .before .before .before .before in
+    record { fits = omega (arith, deliver-fits _ _ _ _ _ _ _ _ (d .deliver .ensures) _ (a .answer3 .given .1) .most) }
 
 cast-t31 : tie.Need-cast-t31
-cast-t31 c = record { fits = omega (arith, small (c .before .before .before .before .before .before .before .before .before .before) .3) }
+cast-t31 c =
+    let a = c .before .before .before .before .before .before .before .before .before .before in
+    let d = a .before .before .before .before .before .before .before .before in
+    record { fits = omega (arith, deliver-fits _ _ _ _ _ _ _ _ (d .deliver .ensures) _ (a .answer3 .given .1) .few) }
 
 same-length : tie.Need-same-length
 same-length c = search needs

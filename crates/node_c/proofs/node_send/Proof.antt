@@ -1,14 +1,9 @@
 -- The record is loaded, the node sends, and what an accepted send leaves is stored. Assumes nothing.
-use Prim.Native.Nat.{_≤_}
 use native.Mathlib.Omega.{arith}
 use Rattle.node_c.proofs.Told.{send-fits, send-stored, send-told}
 use borrow.Author.Needs.{needs}
 use Rattle.node_c.proofs.node_send.Statement.{statement}
 use Rattle.node_c.proofs.node_send.Tie as tie
-
--- the values of an accepted send
-small : (c : tie.After-answer2) → (c .answer2 .given .0 .0 ≤ 1810) × (c .answer2 .given .0 .1 .0 ≤ 12)
-small c = let d = c .before .before .before .before in send-fits _ _ _ _ _ _ (d .send .ensures) _ (c .answer2 .given .1)
 
 load-requires : tie.Need-load-requires
 load-requires c κs = search needs
@@ -26,10 +21,16 @@ store-requires : tie.Need-store-requires
 store-requires c κs = search needs
 
 cast-t21 : tie.Need-cast-t21
-cast-t21 c = record { fits = omega (arith, small (c .before .before .before .before) .0) }
+cast-t21 c =
+    let a = c .before .before .before .before in
+    let d = a .before .before .before .before in
+    record { fits = omega (arith, send-fits _ _ _ _ _ _ (d .send .ensures) _ (a .answer2 .given .1) .most) }
 
 cast-t22 : tie.Need-cast-t22
-cast-t22 c = record { fits = omega (arith, small (c .before .before .before .before) .1) }
+cast-t22 c =
+    let a = c .before .before .before .before in
+    let d = a .before .before .before .before in
+    record { fits = omega (arith, send-fits _ _ _ _ _ _ (d .send .ensures) _ (a .answer2 .given .1) .few) }
 
 same-length : tie.Need-same-length
 same-length c = search needs

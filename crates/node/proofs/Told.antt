@@ -1,0 +1,184 @@
+-- What the answer of a call sent of what the call left: the frames that it wrote, and that its numbers are small. Assumes nothing.
+use Prim.Native.Nat.{ℕ, _+_, _-_, _≤_}
+use mathlib.Core.Bool.{false}
+use mathlib.Core.List.{List, [], _∷_}
+use mathlib.Core.Path.{_≡_, refl, subst, sym}
+use native.Mathlib.Decide.{ℕ-discrete}
+use native.Mathlib.Omega.{arith}
+use lib.ListN.{length, length-append}
+use Rattle.wire.proofs.Bytes.{length-put}
+use Rattle.wire.specs.Bytes.{put}
+use Rattle.wire.specs.Limits.{maxBody}
+use Rattle.matrix.specs.Array.{entry}
+use Rattle.matrix.specs.Matrix.{Matrix, clear, merge}
+use Rattle.matrix.specs.Message.{Kind, user, extra, Message, userMessage}
+use Rattle.frame.proofs.Frames.{frames-nil, length-frames}
+use Rattle.frame.proofs.Written.{length-encode}
+use Rattle.frame.specs.Frame.{decode}
+use Rattle.frame.specs.Frames.{framesOf}
+use Rattle.frame.specs.Header.{header}
+use Rattle.arrival.specs.Checked.{Checked}
+use Rattle.holdback.proofs.Parts.{queue-frame}
+use Rattle.holdback.proofs.Queues.{found-held}
+use Rattle.holdback.proofs.Searched.{found-none}
+use Rattle.holdback.specs.Places.{frameAt, placeOf}
+use Rattle.holdback.specs.Slots.{heldMessages}
+use Rattle.protocol.proofs.Trim.{trim-few}
+use Rattle.protocol.specs.Answer.{delivery}
+use Rattle.protocol.specs.Deliver.{Search, conclude, learn}
+use Rattle.protocol.specs.Node.{Node}
+use Rattle.protocol.specs.Offer.{deliverable}
+use Rattle.protocol.specs.Trim.{trimFor}
+use Rattle.trim.proofs.Bounds.{trim-1008}
+use Rattle.node.proofs.Shared.{record-passed}
+use Rattle.node.proofs.Sending.{frame-room, send-accepted, send-refused, sendable}
+use Rattle.node.proofs.Offering.{length-messages, offer-accepted, offer-refused}
+use Rattle.node.proofs.Delivering.{Ready, deliver-accepted, deliver-ready, deliver-refused, searched}
+use Rattle.node.proofs.Taking.{bodied}
+use Rattle.node.specs.Answers.{AfterSend, AfterOffer, AfterDeliver}
+use Rattle.node.specs.Calls.{acceptDeliver, deliverCall, offerCall, sendCall}
+use Rattle.node.specs.Checks.{deliverRefusal, nodeAt, offerRefusal, sendRefusal, shortOutputs}
+use Rattle.node.specs.declared.Node.{Node as Record}
+use Rattle.node.specs.declared.Delivered.{Delivered}
+use Rattle.node.specs.declared.SendAnswer.{SendAnswer}
+use Rattle.node.specs.declared.OfferAnswer.{OfferAnswer}
+use Rattle.node.specs.declared.DeliverAnswer.{DeliverAnswer}
+use Rattle.node.specs.declared.SendAnswer.the-variants as sendAnswer
+use Rattle.node.specs.declared.OfferAnswer.the-variants as offerAnswer
+use Rattle.node.specs.declared.DeliverAnswer.the-variants as deliverAnswer
+
+-- the frames of these messages, so many bytes, were written from the front of `out` on, which is now o
+pub record Wrote (out o : List ℕ) (bytes : ℕ) (l : List Message) : Type 0 where
+  pub frames : o ≡ put out 0 (framesOf l)
+  pub size : bytes ≡ length (framesOf l)
+  pub inside : bytes ≤ length o
+
+-- ---- send
+
+-- an accepted send: what it issued, the user message first
+pub record SentFacts (out o : List ℕ) (bytes extras : ℕ) : Type 0 where
+  pub issued : List Message
+  pub wrote : Wrote out o bytes issued
+  pub many : length issued ≡ 1 + extras
+  pub few : extras ≤ 12
+  pub most : bytes ≤ 1810
+
+-- what a send leaves in the output, by its answer
+abbrev pub SendTold : List ℕ → SendAnswer → AfterSend → Type 0
+SendTold out (sendAnswer.Refused k) c = Unit {0}
+SendTold out (sendAnswer.Sent bytes extras) c = SentFacts out (c .out) bytes extras
+
+module _ (r : Record) (to : ℕ) (body out : List ℕ) where
+  abbrev sent : AfterSend → Type 0
+  sent c = SendTold out (c .result .answer) c
+
+  pub send-told : SendTold out (sendCall r to body out .result .answer) (sendCall r to body out)
+  send-told = go (ℕ-discrete (sendRefusal r to (length body) (length out)) 0)
+    where
+      go : Dec (sendRefusal r to (length body) (length out) ≡ 0) → sent (sendCall r to body out)
+      go (yes z) =
+          let m = entry (r .m) in
+          let first : Message = userMessage (r .me) to (r .n) (r .cap) m body in
+          let others : List Message = trimFor 12 (r .me) (r .n) (r .cap) (clear (r .me) to m) .extras in
+          let k = sendable r to (length body) (length out) z in
+          let most : length (framesOf (first ∷ others)) ≤ 1810 = omega (arith, length-frames first others, length-encode first, frame-room k, k .short, trim-1008 (r .me) (r .n) (r .cap) (clear (r .me) to m)) in
+          subst sent (send-accepted r to body out z)
+          record {
+            issued = first ∷ others;
+            wrote = record { frames = refl; size = refl; inside = omega (arith, most, length-put out 0 (framesOf (first ∷ others)), k .long) };
+            many = omega arith;
+            few = omega (arith, trim-few 12 (r .me) (r .n) (r .cap) (clear (r .me) to m));
+            most = most;
+          }
+      go (no h) = subst sent (send-refused r to body out (sendRefusal r to (length body) (length out)) refl h) tt
+
+-- ---- offer
+
+-- what an offer leaves in the queue, by its answer
+abbrev pub OfferTold : List ℕ → OfferAnswer → AfterOffer → Type 0
+OfferTold q (offerAnswer.Refused k) c = c .queue ≡ q
+OfferTold q (offerAnswer.Held count ready) c = count ≤ 17
+
+module _ (r : Record) (s q : List ℕ) where
+  abbrev offered : AfterOffer → Type 0
+  offered c = OfferTold q (c .result .answer) c
+
+  pub offer-told : OfferTold q (offerCall r s q .result .answer) (offerCall r s q)
+  unfolding offerRefusal
+  offer-told = go (ℕ-discrete (offerRefusal r s q) 0)
+    where
+      go : Dec (offerRefusal r s q ≡ 0) → offered (offerCall r s q)
+      go (yes z) =
+          subst offered (offer-accepted r s q z)
+          (omega (arith, length-append (heldMessages (r .held) q) (decode s ∷ []), length-messages (r .held) q, record-passed r q false _ z .sound .room))
+      go (no h) = subst offered (offer-refused r s q (offerRefusal r s q) refl h) refl
+
+-- ---- deliver
+
+-- what is issued when entries are taken in
+pub learn-few : (k : Kind) (d : Node) (e : Matrix) → length (learn k d e .extras) ≤ 12
+learn-few user d e = trim-few 12 (d .me) (d .n) (d .cap) (merge (d .me) (d .matrix) e)
+learn-few extra d e = omega arith
+
+pub learn-room : (k : Kind) (d : Node) (e : Matrix) → length (framesOf (learn k d e .extras)) ≤ 1008
+learn-room user d e = trim-1008 (d .me) (d .n) (d .cap) (merge (d .me) (d .matrix) e)
+learn-room extra d e = rw frames-nil (omega arith)
+
+-- the body of a sound frame
+body-small : (s : List ℕ) → Checked s → length (decode s .body) ≤ maxBody
+unfolding decode
+body-small s c = let b = bodied s (header s) c refl in omega (arith, b .size, b .short)
+
+-- a delivery: what it issued
+pub record DeliveredFacts (out o : List ℕ) (d : Delivered) : Type 0 where
+  pub issued : List Message
+  pub wrote : Wrote out o (d .bytes) issued
+  pub many : length issued ≡ d .extras
+  pub few : d .extras ≤ 12
+  pub most : d .bytes ≤ 1008
+  pub body : d .body ≤ maxBody
+  pub tried : d .tried ≤ 16
+
+-- what a deliver leaves in record, queue and output, by its answer
+abbrev pub DeliverTold : Record → List ℕ → List ℕ → DeliverAnswer → AfterDeliver → Type 0
+DeliverTold r q out (deliverAnswer.Refused k) c = c .queue ≡ q
+DeliverTold r q out (deliverAnswer.Nothing tried) c = (tried ≤ 16) × (c .queue ≡ q) × (c .result .node ≡ r)
+DeliverTold r q out (deliverAnswer.Frame d) c = DeliveredFacts out (c .out) d
+
+module _ (r : Record) (q out body : List ℕ) where
+  abbrev given : AfterDeliver → Type 0
+  given c = DeliverTold r q out (c .result .answer) c
+
+  -- what the search led to
+  abbrev by : Search → Type 0
+  by f = given (acceptDeliver r q out body (conclude (nodeAt r q) f) (delivery ((conclude (nodeAt r q) f) .answer)))
+
+  by-search : Ready r q (length out) (length body) → by (searched r q)
+  by-search k = go (ℕ-discrete (placeOf (searched r q)) 0)
+    where
+      go : Dec (placeOf (searched r q) ≡ 0) → by (searched r q)
+      go (yes p) =
+          subst by (sym (found-none (deliverable (nodeAt r q)) (heldMessages (r .held) q) p)) (omega (arith, length-messages (r .held) q, k .sound .room), refl, refl)
+      go (no p) =
+          let j : ℕ = placeOf (searched r q) - 1 in
+          let x = found-held (deliverable (nodeAt r q)) (r .held) q j (omega arith) in
+          let g : Message = decode (frameAt q j) in
+          let l : List Message = learn (g .kind) (nodeAt r q) (g .entries) .extras in
+          let most : length (framesOf l) ≤ 1008 = learn-room (g .kind) (nodeAt r q) (g .entries) in
+          subst by (sym (x .1))
+          record {
+            issued = l;
+            wrote = record { frames = refl; size = refl; inside = omega (arith, most, length-put out 0 (framesOf l), k .long) };
+            many = refl;
+            few = learn-few (g .kind) (nodeAt r q) (g .entries);
+            most = most;
+            body = body-small (frameAt q j) (queue-frame (r .held) q (k .queue) j (x .0));
+            tried = omega (arith, x .0, k .sound .room);
+          }
+
+  pub deliver-told : DeliverTold r q out (deliverCall r q out body .result .answer) (deliverCall r q out body)
+  deliver-told = go (ℕ-discrete (deliverRefusal r q (shortOutputs (length out) (length body))) 0)
+    where
+      go : Dec (deliverRefusal r q (shortOutputs (length out) (length body)) ≡ 0) → given (deliverCall r q out body)
+      go (yes z) = subst given (deliver-accepted r q out body z) (by-search (deliver-ready r q (length out) (length body) z))
+      go (no h) = subst given (deliver-refused r q out body (deliverRefusal r q (shortOutputs (length out) (length body))) refl h) refl
