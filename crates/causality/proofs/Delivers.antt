@@ -1,6 +1,6 @@
 -- A deliver on record and bytes leaves what the deliver on messages leaves; with too short an output it is refused. Assumes nothing.
 use Prim.Native.Nat.{_-_, _<_, _≤_, suc, ℕ}
-use mathlib.Core.Bool.{Bool, _||_, cond, false, not, true}
+use mathlib.Core.Bool.{Bool, _||_, cond, not}
 use mathlib.Core.List.{List, [], _∷_, map}
 use mathlib.Core.Logic.{_⊎_, inl, inr}
 use mathlib.Core.Option.{some}
@@ -12,7 +12,7 @@ use Rattle.causality.proofs.Frames.{cut-nothing, issued-frames, trim-ba
 use Rattle.causality.proofs.Matches.{Agrees}
 use Rattle.causality.proofs.Offers.{queue-passes, whole-back}
 use Rattle.causality.proofs.Queues.{Bodies, frames-back, queue-length}
-use Rattle.causality.proofs.Records.{record-kept}
+use Rattle.causality.proofs.Records.{either-T, record-kept}
 use Rattle.causality.specs.Demand3.{delivered}
 use Rattle.frame.specs.Frame.{encode}
 use Rattle.holdback.specs.Check.{wrongQueue}
@@ -141,8 +141,4 @@ module _ (n cap : ℕ) (w : messages.World) (g : Good n (λ i. cap) w) (few : le
       let o : protocol.Outcome = deliver (nodeOf r (heldMessages (length (w .nodes i .held)) q)) in
       let t₄ : AfterDeliver = cond (wrongQueue (nodeOf r []) (length (w .nodes i .held)) q) (refuseDeliver 4 r q out body) (settle out body o) in
       cond-no (brokenRecord r) (refuseDeliver 2 r q out body) (cond (short out body) (refuseDeliver 3 r q out body) t₄) (record-kept n cap w g few i hi)
-      ∙ cond-yes (short out body) (refuseDeliver 3 r q out body) t₄ (go (ltb (length out) outSize || ltb (length body) 64) (not (eqb (length q) queueSize)) h)
-    where
-      go : (a b : Bool) → T a → T (a || b)
-      go true b t = tt
-      go false b t = absurd t
+      ∙ cond-yes (short out body) (refuseDeliver 3 r q out body) t₄ (either-T (ltb (length out) outSize || ltb (length body) 64) (not (eqb (length q) queueSize)) (inl h))

@@ -9,7 +9,7 @@ use Rattle.causality.proofs.Frames.{cut-nothing}
 use Rattle.causality.proofs.Matches.{Agrees}
 use Rattle.causality.proofs.Queues.{Bodies, frame-passes, frames-back, messages-back, queue-length, queue-right, sound-issue}
 use Rattle.causality.proofs.Records.{node-back, record-kept}
-use Rattle.causality.proofs.Refused.{SaysNo, not-zero, refused-agrees}
+use Rattle.causality.proofs.Refused.{SaysNo, refused-agrees}
 use Rattle.causality.specs.Demand3.{offered}
 use Rattle.frame.proofs.Written.{decode-encode}
 use Rattle.frame.specs.Frame.{decode, encode}
@@ -24,7 +24,7 @@ use Rattle.protocol.proofs.Good.{Good}
 use Rattle.protocol.proofs.Grown.{nodeAt}
 use Rattle.protocol.proofs.Lists.{at-none}
 use Rattle.protocol.specs.Offer.{claimsTooMuch, deliveredBefore, heldAlready, holding, noRoom, notForMe, offer}
-use Rattle.wire.proofs.Tests.{cond-elim, cond-no, eq→eqb, T-not-not}
+use Rattle.wire.proofs.Tests.{cond-elim, cond-no, eq→eqb, is-false, T-not-not}
 use Rattle.protocol.specs.World as messages
 use Rattle.protocol.specs.Answer as protocol
 use Rattle.protocol.specs.Node.{Node as MessageNode}
@@ -95,7 +95,7 @@ module _ (n cap : ℕ) (w : messages.World) (g : Good n (λ i. cap) w) (few : le
   settle s o = cond (protocol.accepted (o .answer)) (acceptOffer r s q o) (refuseOffer (refusalOf (o .answer)) r q)
 
   says-no : (k : ℕ) → T (not (eqb k 0)) → SaysNo (offered (answer.Refused k))
-  says-no k t = record { refuses = not-zero k t; nothing = refl; holds = refl; gives = refl; counts = refl }
+  says-no k t = record { refuses = is-false (eqb k 0) t; nothing = refl; holds = refl; gives = refl; counts = refl }
 
   settled : (m : Message) → Case d m → Left (offer d m) (settle (encode m) (offer d m))
   settled m (refuses k t e) = subst (λ (o : protocol.Outcome). Left o (settle (encode m) o)) (sym e) (refused-agrees d k (offered (answer.Refused k)) [] (says-no k t))

@@ -26,7 +26,7 @@ use Rattle.protocol.specs.World as messages
 use Rattle.protocol.specs.Node.{Node as MessageNode}
 
 -- one of two tests
-either-T : (a b : Bool) → T a ⊎ T b → T (a || b)
+pub either-T : (a b : Bool) → T a ⊎ T b → T (a || b)
 either-T true b t = tt
 either-T false b (inl t) = absurd t
 either-T false b (inr t) = t

@@ -1,13 +1,15 @@
 -- A refused call and a refused step agree: both leave all as it was. A send to itself is such a step. Assumes nothing.
 use Prim.Native.Nat.{ℕ}
-use mathlib.Core.Bool.{Bool, _||_, cond, false, not, true}
+use mathlib.Core.Bool.{cond, false, not}
 use mathlib.Core.List.{List, [], map}
+use mathlib.Core.Logic.{inl}
 use mathlib.Core.Option.{none}
 use mathlib.Core.Path.{_∙_, _≡_, ap, refl}
 use lib.Dec.{T, eqb, eqb-refl, ltb}
 use lib.ListN.{take}
 use Rattle.causality.proofs.Frames.{cut-nothing}
 use Rattle.causality.proofs.Matches.{Agrees}
+use Rattle.causality.proofs.Records.{either-T}
 use Rattle.causality.specs.Demand3.{Answer, accepted, counted, deliveries, delivery, framesIn, offersAccepted}
 use Rattle.frame.specs.Frame.{encode}
 use Rattle.holdback.specs.Slots.{laid}
@@ -15,7 +17,7 @@ use Rattle.node.specs.Record.{recordOf}
 use Rattle.protocol.proofs.Lists.{at-none}
 use Rattle.protocol.specs.Node.{atLimit}
 use Rattle.protocol.specs.Send.{badDestination, longBody, send, sending}
-use Rattle.wire.proofs.Tests.{cond-no, cond-yes, is-false}
+use Rattle.wire.proofs.Tests.{cond-no, cond-yes}
 use Rattle.protocol.specs.Answer as protocol
 use Rattle.protocol.specs.Node.{Node as MessageNode}
 
@@ -37,20 +39,12 @@ refused-agrees d k a out s = record {
   bodies = λ p m e. absurd (at-none p m e);
 }
 
--- no refusal's number is 0
-pub not-zero : (k : ℕ) → T (not (eqb k 0)) → eqb k 0 ≡ false
-not-zero k t = is-false (eqb k 0) t
-
 -- a node that has issued fewer than 1,000,000,000 frames refuses a send to itself
 pub own-refused : (d : MessageNode) → T (not (atLimit d)) → send d (d .me) [] ≡ protocol.refuse 6 d
 unfolding send
 own-refused d t =
     cond-no (atLimit d) (protocol.refuse 5 d) rest t
-    ∙ cond-yes (badDestination d (d .me)) (protocol.refuse 6 d) (cond (longBody []) (protocol.refuse 7 d) (sending d (d .me) [])) (go (eqb (d .me) (d .me)) (not (ltb (d .me) (d .n))) (eqb-refl (d .me)))
+    ∙ cond-yes (badDestination d (d .me)) (protocol.refuse 6 d) (cond (longBody []) (protocol.refuse 7 d) (sending d (d .me) [])) (either-T (eqb (d .me) (d .me)) (not (ltb (d .me) (d .n))) (inl (eqb-refl (d .me))))
   where
     rest : protocol.Outcome
     rest = cond (badDestination d (d .me)) (protocol.refuse 6 d) (cond (longBody []) (protocol.refuse 7 d) (sending d (d .me) []))
-
-    go : (a b : Bool) → T a → T (a || b)
-    go true b t = tt
-    go false b t = absurd t

@@ -12,7 +12,7 @@ use Rattle.causality.proofs.Frames.{issued-frames, send-room, trim-bare
 use Rattle.causality.proofs.Matches.{Agrees}
 use Rattle.causality.proofs.Queues.{Bodies}
 use Rattle.causality.proofs.Records.{node-back, record-kept}
-use Rattle.causality.proofs.Refused.{SaysNo, not-zero, refused-agrees}
+use Rattle.causality.proofs.Refused.{SaysNo, refused-agrees}
 use Rattle.causality.specs.Demand3.{sent}
 use Rattle.frame.proofs.Written.{length-encode}
 use Rattle.frame.specs.Frame.{encode}
@@ -31,7 +31,7 @@ use Rattle.protocol.specs.Node.{atLimit}
 use Rattle.protocol.specs.Send.{longBody, send, sending, sentMatrix, sentMessage}
 use Rattle.wire.proofs.Bytes.{small-bytes}
 use Rattle.trim.proofs.Bounds.{trim-bytes}
-use Rattle.wire.proofs.Tests.{cond-no, cond-yes, decide, le→nltb}
+use Rattle.wire.proofs.Tests.{cond-no, cond-yes, decide, is-false, le→nltb}
 use Rattle.wire.specs.Bytes.{AllBytes}
 use Rattle.wire.specs.Limits.{maxFrame}
 use Rattle.protocol.specs.World as messages
@@ -105,7 +105,7 @@ module _ (n cap : ℕ) (w : messages.World) (g : Good n (λ i. cap) w) (few : le
   settle out o = cond (protocol.accepted (o .answer)) (acceptSend r out o) (refuseSend (refusalOf (o .answer)) r out)
 
   says-no : (k : ℕ) → T (not (eqb k 0)) → SaysNo (sent (answer.Refused k))
-  says-no k t = record { refuses = not-zero k t; nothing = refl; holds = refl; gives = refl; counts = refl }
+  says-no k t = record { refuses = is-false (eqb k 0) t; nothing = refl; holds = refl; gives = refl; counts = refl }
 
   settled : (to : ℕ) (body out : List ℕ) → AllBytes body → outSize ≤ length out → Case to body → Left (send d to body) (settle out (send (with-held []) to body))
   settled to body out bytes h (refuses k t e) =

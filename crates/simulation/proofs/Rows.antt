@@ -1,12 +1,12 @@
 -- Laws of printed lines: how long they are at most, and the lines of issued frames one after the other. Assumes nothing.
-use Prim.Native.Nat.{ℕ, suc, _+_, _-_, _≤_, _<_}
+use Prim.Native.Nat.{ℕ, suc, _+_, _≤_, _<_}
 use mathlib.Core.Bool.{cond}
 use mathlib.Core.List.{List, [], _∷_, _++_}
 use mathlib.Core.Path.{_≡_, refl, sym, ap, _∙_}
 use native.Mathlib.Omega.{arith}
 use lib.Dec.{eqb}
-use lib.ListN.{length, getD, take, drop, length-append, length-drop}
-use lib.Seq.{drop-cons, drop-length, take-all}
+use lib.ListN.{length, getD, take, drop, length-append}
+use lib.Seq.{drop-cons, drop-length}
 use Rattle.wire.specs.Bytes.{put}
 use Rattle.wire.proofs.Bytes.{put-append}
 use Rattle.text.specs.Print.{decimal, digits, row, spaced}
@@ -78,10 +78,6 @@ pub header-printed : (m at r k : ℕ) (h : Header) (o p : List ℕ) → k ≡ co
 header-printed m at r k h o p ek l er ep =
     let e : row k (m ∷ h .from ∷ h .to ∷ h .e ∷ []) ≡ headerRow m h = ap (λ (x : ℕ). row x (m ∷ h .from ∷ h .to ∷ h .e ∷ [])) ek ∙ sym (header-row m h) in
     (omega arith, (er ∙ ap (λ (x : List ℕ). at + length x) e, ep ∙ ap (put o at) e))
-
--- the part of a log from `at` on
-pub rest-part : (s : List ℕ) (at : ℕ) → take (length s - at) (drop at s) ≡ drop at s
-rest-part s at = take-all (length s - at) (drop at s) (omega (arith, length-drop at s))
 
 -- the lines of the frames from place i on: one line and the others, or none
 rows-more : (f : List (List ℕ)) (i : ℕ) → i < length f → issueRows (i + 1) (drop i f) ≡ headerRow (i + 1) (header (getD f i [])) ++ issueRows (i + 1 + 1) (drop (i + 1) f)

@@ -3,7 +3,7 @@ use Prim.Native.Nat.{ℕ, zero, suc, _+_, _*_, _≤_, _<_}
 use mathlib.Core.List.{List, [], _∷_, _++_, map, map-append, append-assoc}
 use mathlib.Core.Logic.{_≢_}
 use mathlib.Core.Option.{some}
-use mathlib.Core.Path.{_≡_, refl, sym, ap, ap₂, _∙_, subst}
+use mathlib.Core.Path.{_≡_, refl, sym, ap, _∙_, subst}
 use native.Mathlib.Decide.{ℕ-discrete}
 use native.Mathlib.Nat.{add-zero}
 use native.Mathlib.Omega.{arith}
@@ -13,7 +13,6 @@ use Rattle.wire.proofs.Bytes.{length-put, put-eq}
 use Rattle.wire.specs.Bytes.{put as write}
 use Rattle.wire.specs.Limits.{maxFrame}
 use Rattle.arrival.specs.Checked.{Checked}
-use Rattle.holdback.specs.Slots.{queueSize}
 use Rattle.protocol.proofs.Below.{put-other, put-same}
 use Rattle.protocol.specs.World.{put}
 use Rattle.node.specs.declared.Node.{Node as Record}
@@ -22,7 +21,7 @@ use Rattle.world.proofs.Logs.{joined-append, joined-one, joined-none}
 use Rattle.world.proofs.Reach.{IssuedFacts, issued-facts, reached-later}
 use Rattle.world.specs.declared.World.{World as Stored}
 use Rattle.world.specs.Steps.{frames}
-use Rattle.world.specs.Stored.{Begins, BeginsWith, Holds, Reached, joined, logSize, maxSimulated, noRecord, queueAt, storedAfter}
+use Rattle.world.specs.Stored.{BeginsWith, Holds, Reached, joined, noRecord, queueAt, storedAfter}
 
 -- the issue at a place of the log
 pub issue-at : (l : List Issue) (p : ℕ) → p < length l → (g : Issue) × (getElem? l p ≡ some g) × (getD (frames l) p [] ≡ g .frame)

@@ -1,17 +1,16 @@
 -- Frames end to end in a log: the frame at a place is found behind those before it. Assumes nothing.
-use Prim.Native.Nat.{ℕ, zero, suc, _+_, _*_, _-_, _≤_, _<_}
+use Prim.Native.Nat.{ℕ, suc, _+_, _-_, _≤_, _<_}
 use mathlib.Core.Bool.{Bool, cond, not, true, false}
 use mathlib.Core.Logic.{_⊎_, inl, inr}
 use mathlib.Core.List.{List, [], _∷_, _++_, append-assoc, append-nil}
-use mathlib.Core.Path.{_≡_, refl, sym, ap, _∙_, subst}
+use mathlib.Core.Path.{_≡_, refl, sym, ap, _∙_}
 use native.Mathlib.Omega.{arith}
 use lib.Dec.{T, eqb, leb, leb→le, nleb→lt}
 use borrow.Author.Tests.{eq-eqb, ne-eqb}
-use lib.ListN.{length, getD, take, drop, length-append, take-append-drop, length-drop}
-use lib.Seq.{take-all, take-suc, drop-cons, split-at, take-at, drop-at, length-take-le, take-append-seam, drop-append-seam, take-length, drop-length}
+use lib.ListN.{length, getD, take, drop, length-append, take-append-drop}
+use lib.Seq.{take-all, take-suc, drop-cons, split-at, drop-at, take-append-seam, drop-length}
 use Rattle.wire.proofs.Tests.{decide}
 use Rattle.wire.proofs.Trailer.{trailed}
-use Rattle.wire.specs.Limits.{maxFrame}
 use Rattle.frame.proofs.Passed.{passes-kept}
 use Rattle.frame.specs.Frame.{decode}
 use Rattle.frame.specs.Header.{header, ownLength}
@@ -21,7 +20,7 @@ use Rattle.arrival.specs.Checked.{Checked}
 use Rattle.holdback.proofs.Slots.{header-append, own-least}
 use Rattle.causality.specs.Demand3.{Label}
 use Rattle.world.specs.Steps.{named, issueFrom}
-use Rattle.world.specs.Stored.{joined, Begins, BeginsWith}
+use Rattle.world.specs.Stored.{joined, Begins}
 
 -- a sound frame is as long as its own e and b say, and has at most 802 bytes
 pub checked-own : (s : List ℕ) → Checked s → ownLength (header s) ≡ length s

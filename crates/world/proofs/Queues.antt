@@ -1,13 +1,13 @@
 -- One queue of several that lie end to end, written anew. Assumes nothing.
-use Prim.Native.Nat.{ℕ, suc, _+_, _*_, _-_, _≤_, _<_}
-use mathlib.Core.List.{List, [], _∷_, _++_, append-assoc}
+use Prim.Native.Nat.{ℕ, _+_, _*_, _-_, _≤_, _<_}
+use mathlib.Core.List.{List, _++_}
 use mathlib.Core.Bool.{not}
 use mathlib.Core.Logic.{_≢_, _⊎_, inl, inr}
-use mathlib.Core.Path.{_≡_, refl, sym, ap, _∙_}
+use mathlib.Core.Path.{_≡_, sym, ap, _∙_}
 use native.Mathlib.Omega.{arith}
 use lib.Dec.{T, ltb, ltb→lt, nltb→le}
 use lib.ListN.{length, take, drop, length-append, length-drop, take-append-drop}
-use lib.Seq.{length-take-le, take-append-seam, drop-append-seam, take-append-le, drop-append-le, drop-append-add, drop-at, take-at}
+use lib.Seq.{length-take-le, take-append-le, drop-append-le, drop-append-add, drop-at, take-at}
 use Rattle.wire.proofs.Tests.{decide}
 use Rattle.holdback.specs.Slots.{queueSize}
 use Rattle.world.specs.Stored.{maxSimulated, queueAt}

@@ -1,8 +1,7 @@
 -- Worlds that a list of steps leads to: one step more, and what is known of the frames issued. Assumes nothing.
 use Prim.Native.Nat.{ℕ, _+_, _≤_, _<_}
-use mathlib.Core.Bool.{cond}
 use mathlib.Core.List.{List, [], _∷_, _++_, map}
-use mathlib.Core.Option.{Option, none, some}
+use mathlib.Core.Option.{some}
 use mathlib.Core.Path.{_≡_, refl, sym, ap, _∙_, subst}
 use native.Mathlib.Omega.{arith}
 use lib.Dec.{ltb, lt→ltb}
@@ -12,8 +11,6 @@ use Rattle.wire.proofs.Bytes.{small-bytes}
 use Rattle.wire.specs.Limits.{maxFrame}
 use Rattle.matrix.specs.Message.{InRange, Sound}
 use Rattle.frame.proofs.Written.{encode-most, encode-sound}
-use Rattle.frame.specs.Frame.{encode}
-use Rattle.frame.specs.Header.{header}
 use Rattle.arrival.specs.Checked.{Checked}
 use Rattle.protocol.proofs.Good.{Good}
 use Rattle.protocol.proofs.Lists.{map-at}

@@ -1,11 +1,11 @@
 -- A send that is stored is the definition's. Assumes nothing.
-use Prim.Native.Nat.{ℕ, _+_, _*_, _-_, _≤_, _<_}
-use mathlib.Core.Bool.{Bool, true, false, cond, _||_, or-true}
-use mathlib.Core.List.{List, [], _∷_}
+use Prim.Native.Nat.{ℕ, _+_, _-_, _≤_, _<_}
+use mathlib.Core.Bool.{true, false, _||_, or-true}
+use mathlib.Core.List.{List, []}
 use mathlib.Core.Path.{_≡_, refl, sym, ap, ap₂, _∙_, subst}
 use native.Mathlib.Omega.{arith}
 use borrow.Author.Tests.{le-leb, lt-leb, lt-ltb, le-ltb}
-use lib.Dec.{leb, ltb}
+use lib.Dec.{leb}
 use lib.ListN.{length, getD, take}
 use lib.Seq.{length-take-le}
 use Rattle.wire.specs.Bytes.{put as write}
@@ -24,7 +24,7 @@ use Rattle.world.specs.declared.Outcome.{Outcome}
 use Rattle.world.specs.declared.Outcome.the-variants as outcome
 use Rattle.world.specs.declared.World.{World as Stored}
 use Rattle.world.specs.Steps.{AfterStep, afterSent, exhausted, frameOutput, refuse, sendStep}
-use Rattle.world.specs.Stored.{Holds, joined, logSize, noRecord, storedAfter}
+use Rattle.world.specs.Stored.{Holds, logSize, noRecord, storedAfter}
 
 -- the tests before a call: the node, and the issues that are left
 module _ (n limit i : ℕ) (w : World) where

@@ -6,9 +6,10 @@ use native.Mathlib.Omega.{arith}
 use borrow.Author.Needs.{needs}
 use lib.ListN.{length}
 use Rattle.frame.specs.Header.{header}
+use Rattle.holdback.proofs.Filling.{rest-lent}
 use Rattle.world.proofs.Logs.{log-room, log-part}
 use Rattle.simulation.specs.Asked.{InLog}
-use Rattle.simulation.proofs.Rows.{Issuing, issuing-goes, issuing-ends, rest-part}
+use Rattle.simulation.proofs.Rows.{Issuing, issuing-goes, issuing-ends}
 use Rattle.simulation.proofs.print.put_issues.Statement.{statement}
 use Rattle.simulation.proofs.print.put_issues.Tie as tie
 
@@ -72,7 +73,7 @@ loop-again c =
       λ f g.
           let s = w .loop .inv .4 f g in
           let part = log-part f _ (w .loop .i) (w .loop .next) (c .frame-end .result) (g .begins) (omega (arith, g .whole)) (s .here) (c .frame-end .ensures) in
-          issuing-goes _ _ f _ _ _ _ (w .loop .i) _ _ _ _ s (omega (arith, g .whole)) (h ∙ ap header (rest-part _ (w .loop .next)) ∙ part .head) (part .next) (r .1 .0) (r .1 .1),
+          issuing-goes _ _ f _ _ _ _ (w .loop .i) _ _ _ _ s (omega (arith, g .whole)) (h ∙ ap header (rest-lent _ (w .loop .next)) ∙ part .head) (part .next) (r .1 .0) (r .1 .1),
     )
 
 same-length : tie.Need-same-length Inv-loop μ-loop

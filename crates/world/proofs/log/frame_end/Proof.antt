@@ -1,7 +1,7 @@
 -- The own length of the frame, read at its beginning. Assumes nothing.
 use Prim.Native.Nat.{_-_, ℕ}
 use mathlib.Core.List.{List}
-use mathlib.Core.Path.{_≡_, ap}
+use mathlib.Core.Path.{_≡_}
 use native.Mathlib.Omega.{arith}
 use borrow.Author.Needs.{needs}
 use lib.ListN.{length, take, drop, length-drop}
