@@ -58,9 +58,12 @@ module _ (r : Record) (q out body : List ℕ) (d : Node) (o : Outcome) (a : acce
   by-checks false false false true = refl
   by-checks false false false false = rw a
 
--- what the protocol does where no check is met
+-- the search among the held messages, and what the protocol does where no check is met
+abbrev pub searched : Record → List ℕ → Search
+searched r q = search (deliverable (nodeAt r q)) (heldMessages (r .held) q)
+
 abbrev pub concluded : Record → List ℕ → Outcome
-concluded r q = conclude (nodeAt r q) (search (deliverable (nodeAt r q)) (heldMessages (r .held) q))
+concluded r q = conclude (nodeAt r q) (searched r q)
 
 -- it is not refused
 conclude-accepts : (d : Node) (f : Search) → accepted ((conclude d f) .answer) ≡ true
@@ -73,7 +76,7 @@ pub deliver-by-refusal : (r : Record) (q out body : List ℕ)
 unfolding deliverCall deliverRefusal recordRefusal deliver after
 deliver-by-refusal r q out body =
     let d = nodeAt r q in
-    by-checks r q out body d (concluded r q) (conclude-accepts d (search (deliverable d) (heldMessages (r .held) q))) (brokenRecord r) (shortOutputs (length out) (length body) || not (eqb (length q) queueSize)) (wrongQueue (nodeOf r []) (r .held) q) (atLimit d)
+    by-checks r q out body d (concluded r q) (conclude-accepts d (searched r q)) (brokenRecord r) (shortOutputs (length out) (length body) || not (eqb (length q) queueSize)) (wrongQueue (nodeOf r []) (r .held) q) (atLimit d)
 
 -- a refused deliver, and an accepted one
 pub deliver-refused : (r : Record) (q out body : List ℕ) (k : ℕ) → k ≡ deliverRefusal r q (shortOutputs (length out) (length body)) → (k ≡ 0 → ⊥) → refuseDeliver k r q out body ≡ deliverCall r q out body
@@ -127,9 +130,6 @@ deliver-ready r q out body e =
     }
 
 -- no held frame is deliverable
-abbrev pub searched : Record → List ℕ → Search
-searched r q = search (deliverable (nodeAt r q)) (heldMessages (r .held) q)
-
 pub deliver-none : (r : Record) (q out body : List ℕ) (place : ℕ) → place ≡ placeOf (searched r q) → place ≡ 0
     → afterDeliver (record { answer = deliverAnswer.Nothing (r .held); node = r }) q out body ≡ acceptDeliver r q out body (concluded r q) (delivery ((concluded r q) .answer))
 deliver-none r q out body place e z =

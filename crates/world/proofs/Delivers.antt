@@ -24,7 +24,7 @@ use Rattle.world.proofs.Logs.{begins-inside}
 use Rattle.world.proofs.Queues.{queue-back, queue-here, queue-other, queue-part, queues-length}
 use Rattle.world.proofs.Reach.{reached-deliver}
 use Rattle.world.proofs.Sends.{goes-on}
-use Rattle.world.proofs.Told.{frames-joined, no-frames, wrote-frames}
+use Rattle.world.proofs.Written.{frames-joined, no-frames, wrote-frames}
 use Rattle.world.specs.declared.Outcome.{Outcome}
 use Rattle.world.specs.declared.Outcome.the-variants as outcome
 use Rattle.world.specs.declared.World.{World as Stored}

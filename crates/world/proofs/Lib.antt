@@ -1,6 +1,6 @@
 -- Laws of `world`: frames in a log, the frames that a call wrote, worlds that a list leads to, and a world that is stored at the start and stays so.
 pub mod Logs
-pub mod Told
+pub mod Written
 pub mod Reach
 pub mod Keeping
 pub mod Queues

@@ -19,7 +19,7 @@ use Rattle.node.specs.declared.SendAnswer.the-variants as sendAnswer
 use Rattle.causality.specs.Demand3.{World, counted, framesIn, sent, sends}
 use Rattle.world.proofs.Keeping.{end-room, holds-after, holds-later}
 use Rattle.world.proofs.Reach.{reached-send}
-use Rattle.world.proofs.Told.{frames-joined, wrote-frames}
+use Rattle.world.proofs.Written.{frames-joined, wrote-frames}
 use Rattle.world.specs.declared.Outcome.{Outcome}
 use Rattle.world.specs.declared.Outcome.the-variants as outcome
 use Rattle.world.specs.declared.World.{World as Stored}
