@@ -54,7 +54,7 @@ unfolding framesOf
 frames-many [] = omega arith
 frames-many (m ∷ l) = omega (arith, length-append (encode m) (framesOf l), length-encode m, frames-many l)
 
-pub cut-frames : (l : List Message) → framesIn (framesOf l) ≡ map encode l
+cut-frames : (l : List Message) → framesIn (framesOf l) ≡ map encode l
 cut-frames l = cut-all (length (framesOf l)) l (frames-many l)
 
 -- nothing counted, nothing issued

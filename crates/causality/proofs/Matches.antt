@@ -64,7 +64,7 @@ pub same-length : (l : List messages.Event) (k : List Event) → SameHistory l k
 same-length _ _ empty = refl
 same-length _ _ (next e f l k s r) = ap suc (same-length l k r)
 
-pub same-snoc : (l : List messages.Event) (k : List Event) (e : messages.Event) (f : Event) → SameHistory l k → SameEvent e f → SameHistory (l ++ (e ∷ [])) (k ++ (f ∷ []))
+same-snoc : (l : List messages.Event) (k : List Event) (e : messages.Event) (f : Event) → SameHistory l k → SameEvent e f → SameHistory (l ++ (e ∷ [])) (k ++ (f ∷ []))
 same-snoc _ _ e f empty s = next e f [] [] s empty
 same-snoc _ _ e f (next e′ f′ l k s′ r) s = next e′ f′ (l ++ (e ∷ [])) (k ++ (f ∷ [])) s′ (same-snoc l k e f r s)
 

@@ -32,11 +32,11 @@ abbrev pub EachAt : (Message → Type 0) → List Message → Type 0
 EachAt P l = (h : ℕ) (m : Message) → getElem? l h ≡ some m → P m
 
 -- sound messages are read back from their frames, and their frames fit the slots
-pub decode-all : (l : List Message) → EachAt Sound l → map decode (map encode l) ≡ l
+decode-all : (l : List Message) → EachAt Sound l → map decode (map encode l) ≡ l
 decode-all [] f = refl
 decode-all (m ∷ l) f = ap₂ (λ (x : Message) (y : List Message). x ∷ y) (decode-encode m (f 0 m refl)) (decode-all l (λ h k a. f (suc h) k a))
 
-pub framed-all : (l : List Message) → EachAt Sound l → EachFramed (map encode l)
+framed-all : (l : List Message) → EachAt Sound l → EachFramed (map encode l)
 framed-all [] f = tt
 framed-all (m ∷ l) f = (record { own = own-encode m; fits = encode-most m (f 0 m refl) }, framed-all l (λ h k a. f (suc h) k a))
 

@@ -78,7 +78,7 @@ from-T n m v rows columns vector =
 -- node i of a good world
 module _ (n cap : ℕ) (w : messages.World) (g : Good n (λ i. cap) w) (few : length (w .history) < 1000000000) (i : ℕ) (hi : i < n) where
   -- the node keeps its rules
-  pub sound-node : SoundNode n cap (w .log) (w .history) i (w .nodes i)
+  sound-node : SoundNode n cap (w .log) (w .history) i (w .nodes i)
   sound-node = g .node i hi
 
   pub range : InRange n cap

@@ -101,7 +101,7 @@ module _ (d : Node) (m : Message) where
   unfolding arrivalRefusal holdRefusal
   hold-arrival k e h = e ∙ first-met 12 13 14 (cond (heldAlready d m) 15 (cond (noRoom d m) 16 0)) (notForMe d m) (claimsTooMuch d m) (deliveredBefore d m) (λ z. h (e ∙ z))
 
-  pub hold-left : arrivalRefusal d m ≡ 0 → holdRefusal d m ≡ cond (heldAlready d m) 15 (cond (noRoom d m) 16 0)
+  hold-left : arrivalRefusal d m ≡ 0 → holdRefusal d m ≡ cond (heldAlready d m) 15 (cond (noRoom d m) 16 0)
   unfolding arrivalRefusal holdRefusal
   hold-left e =
       first-none 12 13 14 (cond (heldAlready d m) 15 (cond (noRoom d m) 16 0)) (notForMe d m) (claimsTooMuch d m) (deliveredBefore d m) (λ z. omega arith) (λ z. omega arith) (λ z. omega arith) e
@@ -134,7 +134,7 @@ offer-leaves r s q q′ ready held p w e =
     λ z. record { result = record { answer = offerAnswer.Held (more z) (w z); node = record { me = r .me; n = r .n; cap = r .cap; m = r .m; deliv = r .deliv; held = more z } }; queue = p z }
 
 -- fewer than sixteen are held where the protocol has room
-pub hold-space : (d : Node) (m : Message) → holdRefusal d m ≡ 0 → length (d .held) ≤ 16 → length (d .held) < 16
+hold-space : (d : Node) (m : Message) → holdRefusal d m ≡ 0 → length (d .held) ≤ 16 → length (d .held) < 16
 unfolding holdRefusal
 hold-space d m e h = go (ℕ-discrete (length (d .held)) 16)
   where

@@ -46,14 +46,14 @@ module _ (s : List ℕ) (c : Checked s) where
   unfolding decode
   inside-entry-of x y h = look-each Standing (entriesFrom s 0 (header s .e)) (readable s (header s) c refl .inside) x y h
 
-  pub entries-inside : Inside (decode s .entries)
+  entries-inside : Inside (decode s .entries)
   entries-inside x y h = go (ℕ-discrete (entries x y) 0)
     where
       go : Dec (entries x y ≡ 0) → entries x y ≡ 0
       go (yes e) = e
       go (no e) = let k = inside-entry-of x y e in absurd (h (k .row) (k .column))
 
-  pub entries-limit : (x y : ℕ) → decode s .entries x y ≤ maxCount
+  entries-limit : (x y : ℕ) → decode s .entries x y ≤ maxCount
   entries-limit x y = go (ℕ-discrete (entries x y) 0)
     where
       go : Dec (entries x y ≡ 0) → entries x y ≤ maxCount
@@ -61,14 +61,14 @@ module _ (s : List ℕ) (c : Checked s) where
       go (no e) = inside-entry-of x y e .most
 
 -- a merge keeps both
-pub inside-merge : (j : ℕ) (m e : Matrix) → Inside m → Inside e → Inside (merge j m e)
+inside-merge : (j : ℕ) (m e : Matrix) → Inside m → Inside e → Inside (merge j m e)
 inside-merge j m e p q x y h = go (ℕ-discrete y j)
   where
     go : Dec (y ≡ j) → merge j m e x y ≡ 0
     go (yes a) = rw a (merge-own j m e x ∙ ap (m x) (sym a) ∙ p x y h)
     go (no a) = merge-max j m e x y a ∙ rw (p x y h, q x y h)
 
-pub merge-limit : (j : ℕ) (m e : Matrix) (k : ℕ) → ((x y : ℕ) → m x y ≤ k) → ((x y : ℕ) → e x y ≤ k) → (x y : ℕ) → merge j m e x y ≤ k
+merge-limit : (j : ℕ) (m e : Matrix) (k : ℕ) → ((x y : ℕ) → m x y ≤ k) → ((x y : ℕ) → e x y ≤ k) → (x y : ℕ) → merge j m e x y ≤ k
 merge-limit j m e k p q x y = go (ℕ-discrete y j)
   where
     go : Dec (y ≡ j) → merge j m e x y ≤ k
@@ -76,7 +76,7 @@ merge-limit j m e k p q x y = go (ℕ-discrete y j)
     go (no a) = rw (merge-max j m e x y a) (omega (arith, p x y, q x y))
 
 -- the array after a merge has the merged matrix
-pub merged-back : (s : List ℕ) (j : ℕ) (m m₁ : List ℕ) → Checked s → m₁ ≡ flat (merge j (entry m) (decode s .entries)) → entry m₁ ≡ merge j (entry m) (decode s .entries)
+merged-back : (s : List ℕ) (j : ℕ) (m m₁ : List ℕ) → Checked s → m₁ ≡ flat (merge j (entry m) (decode s .entries)) → entry m₁ ≡ merge j (entry m) (decode s .entries)
 merged-back s j m m₁ c e =
     ap entry e ∙ entry-back (merge j (entry m) (decode s .entries)) (inside-merge j (entry m) (decode s .entries) (inside-entry m) (entries-inside s c))
 

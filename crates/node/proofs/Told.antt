@@ -116,7 +116,7 @@ module _ (r : Record) (s q : List ℕ) where
 -- ---- deliver
 
 -- what is issued when entries are taken in
-pub learn-few : (k : Kind) (d : Node) (e : Matrix) → length (learn k d e .extras) ≤ 12
+learn-few : (k : Kind) (d : Node) (e : Matrix) → length (learn k d e .extras) ≤ 12
 learn-few user d e = trim-few 12 (d .me) (d .n) (d .cap) (merge (d .me) (d .matrix) e)
 learn-few extra d e = omega arith
 

@@ -22,7 +22,7 @@ pub length-fronted : (r : Record) (s : List ℕ) → length (fronted r s) ≡ le
 length-fronted r s = length-set (set (set s 0 (r .me)) 1 (r .n)) 2 (r .cap) ∙ length-set (set s 0 (r .me)) 1 (r .n) ∙ length-set s 0 (r .me)
 
 module _ (r : Record) (cells : length (r .m) ≡ 144) (senders : length (r .deliv) ≡ 12) where
-  pub length-image : length (image r) ≡ imageSize
+  length-image : length (image r) ≡ imageSize
   unfolding image
   length-image =
       omega (arith, length-append (fields (r .m)) (fields (r .deliv) ++ (r .held ∷ [])), length-append (fields (r .deliv)) (r .held ∷ []), length-fields (r .m), length-fields (r .deliv))

@@ -16,12 +16,12 @@ unfolding fields
 length-fields [] = refl
 length-fields (v ∷ l) = omega (arith, length-append (le32 v) (fields l), length-le32 v, length-fields l)
 
-pub length-numbers : (s : List ℕ) (at k : ℕ) → length (numbersAt s at k) ≡ k
+length-numbers : (s : List ℕ) (at k : ℕ) → length (numbersAt s at k) ≡ k
 unfolding numbersAt
 length-numbers s at zero = refl
 length-numbers s at (suc k) = ap suc (length-numbers s (at + 4) k)
 
-pub getD-numbers : (s : List ℕ) (at k i : ℕ) → i < k → getD (numbersAt s at k) i 0 ≡ u32At s (at + 4 * i)
+getD-numbers : (s : List ℕ) (at k i : ℕ) → i < k → getD (numbersAt s at k) i 0 ≡ u32At s (at + 4 * i)
 unfolding numbersAt
 getD-numbers s at zero i h = absurd (omega arith)
 getD-numbers s at (suc k) zero h = rw add-zero

@@ -67,7 +67,7 @@ module _ (c : Check) (l : List Check) where
       go (inr m) = absurd (f .lower (c .number) (met-above (c .number) l a k m) (inl (refl, p)))
 
 -- a number of the first met check that is not 0 is met, and none lower is
-pub first-given : (i : ℕ) (l : List Check) → Above i l → (k : ℕ) → ¬ (k ≡ 0) → firstMet l ≡ k → First l k
+first-given : (i : ℕ) (l : List Check) → Above i l → (k : ℕ) → ¬ (k ≡ 0) → firstMet l ≡ k → First l k
 first-given i [] a k h e = absurd (h (sym e))
 first-given i (c ∷ l) a k h e = go (c .met) refl (first-given (c .number) l (a .1) k h)
   where
@@ -76,7 +76,7 @@ first-given i (c ∷ l) a k h e = go (c .met) refl (first-given (c .number) l (a
     go false p f = met-later c l p k (f (sym (past c l p) ∙ e))
 
 -- and the other way
-pub first-gives : (i : ℕ) (l : List Check) → Above i l → (k : ℕ) → First l k → firstMet l ≡ k
+first-gives : (i : ℕ) (l : List Check) → Above i l → (k : ℕ) → First l k → firstMet l ≡ k
 first-gives i [] a k f = absurd (f .met)
 first-gives i (c ∷ l) a k f = go (c .met) refl (first-gives (c .number) l (a .1) k)
   where
@@ -85,7 +85,7 @@ first-gives i (c ∷ l) a k f = go (c .met) refl (first-gives (c .number) l (a .
     go false p g = past c l p ∙ g (first-tail c l p k f)
 
 -- 0 says that none is met
-pub none-given : (i : ℕ) (l : List Check) → Above i l → firstMet l ≡ 0 → NoneMet l
+none-given : (i : ℕ) (l : List Check) → Above i l → firstMet l ≡ 0 → NoneMet l
 none-given i [] a e = λ k m. m
 none-given i (c ∷ l) a e = go (c .met) refl (none-given (c .number) l (a .1))
   where
@@ -93,7 +93,7 @@ none-given i (c ∷ l) a e = go (c .met) refl (none-given (c .number) l (a .1))
     go true p g = absurd (omega (arith, a .0, sym (here c l p) ∙ e))
     go false p g = none-later c l p (g (sym (past c l p) ∙ e))
 
-pub none-gives : (l : List Check) → NoneMet l → firstMet l ≡ 0
+none-gives : (l : List Check) → NoneMet l → firstMet l ≡ 0
 none-gives [] f = refl
 none-gives (c ∷ l) f = go (c .met) refl (none-gives l)
   where

@@ -68,7 +68,7 @@ module _ (n cap k : ℕ) (v : World) (w : Stored) (q l : List ℕ) (h : Holds n 
   bounded r at e b = omega (arith, grows, ap (λ (y : Stored). y .issued) e)
 
   -- what the outcome prints is what the definition prints
-  pub printed-told : (at end : ℕ) (o o′ : List ℕ)
+  printed-told : (at end : ℕ) (o o′ : List ℕ)
       → ((g : List (List ℕ)) → InLog (w .issued) (s .world .issued) (w .end) l′ g → Wrote (printedBy x (issueRows (w .issued + 1) (drop (w .issued) g)) (s .outcome)) at o end o′)
       → Wrote (printedBy x (newRows v (a .world)) (a .outcome)) at o end o′
   printed-told at end o o′ p =

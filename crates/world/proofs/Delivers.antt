@@ -18,13 +18,14 @@ use Rattle.node.specs.declared.Delivery.{Delivery}
 use Rattle.node.specs.declared.DeliverAnswer.{DeliverAnswer}
 use Rattle.node.specs.declared.DeliverAnswer.the-variants as deliverAnswer
 use Rattle.node.specs.declared.Node.{Node as Record}
+use Rattle.causality.proofs.Frames.{cut-nothing}
 use Rattle.causality.specs.Demand3.{World, counted, deliverAt, delivered, delivers, framesIn}
 use Rattle.world.proofs.Keeping.{end-room, holds-after, holds-later, stored-still}
 use Rattle.world.proofs.Logs.{begins-inside}
 use Rattle.world.proofs.Queues.{queue-back, queue-here, queue-other, queue-part, queues-length}
 use Rattle.world.proofs.Reach.{reached-deliver}
 use Rattle.world.proofs.Sends.{goes-on}
-use Rattle.world.proofs.Written.{frames-joined, no-frames, wrote-frames}
+use Rattle.world.proofs.Written.{frames-joined, wrote-frames}
 use Rattle.world.specs.declared.Outcome.{Outcome}
 use Rattle.world.specs.declared.Outcome.the-variants as outcome
 use Rattle.world.specs.declared.World.{World as Stored}
@@ -102,7 +103,7 @@ module _ (n cap limit k : ℕ) (w : World) (s : Stored) (q l : List ℕ) (h : Ho
         subst (λ (x : AfterStep). (outcome.Nothing tried ≡ x .outcome) × Holds n cap limit (k + 1) (x .world) s q₁ l) (sym (deliver-goes ∙ ap (afterDelivered w j c) t)) (
           refl,
           stored [] 0 (frames-joined (take (counted (delivered (c .result .answer))) (c .out)) ∙ ap (λ (x : ℕ). take x (c .out)) e₀)
-              (ap (λ (x : ℕ). length (framesIn (take x (c .out)))) e₀ ∙ no-frames) (omega (arith, h .below))
+              (ap (λ (x : ℕ). length (framesIn (take x (c .out)))) e₀ ∙ ap length (cut-nothing (c .out))) (omega (arith, h .below))
               (omega (arith, h .end, begins-inside (frames (w .log)) l (h .begins))) s l (unmoved (u .2)) (sym (put-nil l (s .end))),
         )
 

@@ -23,7 +23,7 @@ use Rattle.world.specs.Steps.{named, issueFrom}
 use Rattle.world.specs.Stored.{joined, Begins}
 
 -- a sound frame is as long as its own e and b say, and has at most 802 bytes
-pub checked-own : (s : List ℕ) → Checked s → ownLength (header s) ≡ length s
+checked-own : (s : List ℕ) → Checked s → ownLength (header s) ≡ length s
 unfolding ownLength
 checked-own s c = let k = passes-kept (c .n) (c .cap) s (c .passes) in omega (arith, k .size, k .long, trailed s (k .trailer) .count)
 
@@ -41,7 +41,7 @@ unfolding joined
 joined-none = refl
 
 -- one frame more
-pub joined-suc : (f : List (List ℕ)) (i : ℕ) → i < length f → joined (take (i + 1) f) ≡ joined (take i f) ++ getD f i []
+joined-suc : (f : List (List ℕ)) (i : ℕ) → i < length f → joined (take (i + 1) f) ≡ joined (take i f) ++ getD f i []
 unfolding joined
 joined-suc f i h =
     let e : i + 1 ≡ suc i = omega arith in

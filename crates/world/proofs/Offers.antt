@@ -15,12 +15,13 @@ use Rattle.node.specs.declared.Node.{Node as Record}
 use Rattle.node.specs.declared.Offered.{Offered}
 use Rattle.node.specs.declared.OfferAnswer.{OfferAnswer}
 use Rattle.node.specs.declared.OfferAnswer.the-variants as offerAnswer
+use Rattle.causality.proofs.Frames.{cut-nothing}
 use Rattle.causality.specs.Demand3.{Issue, World, destination, offerAt, offered, offers}
 use Rattle.world.proofs.Keeping.{holds-after, holds-later, issue-at, issue-facts, stored-still}
 use Rattle.world.proofs.Logs.{begins-inside}
 use Rattle.world.proofs.Queues.{queue-back, queue-here, queue-other, queue-part, queues-length}
 use Rattle.world.proofs.Reach.{reached-offer}
-use Rattle.world.proofs.Written.{frames-joined, no-frames}
+use Rattle.world.proofs.Written.{frames-joined}
 use Rattle.world.specs.declared.Outcome.{Outcome}
 use Rattle.world.specs.declared.Outcome.the-variants as outcome
 use Rattle.world.specs.declared.World.{World as Stored}
@@ -127,6 +128,6 @@ module _ (n cap limit k : ℕ) (w : World) (s : Stored) (q l : List ℕ) (h : Ho
                   (queues-length j width q p₁ few (h .size) ez long)
                   (queue-here j width q p₁ few (h .size) ez long ∙ sym (ap (λ (x : AfterOffer). x .queue) same))
                   (λ x hx d. queue-other j width q p₁ few (h .size) ez long x d)
-                  (frames-joined []) no-frames (omega (arith, h .below)) (omega (arith, h .end, begins-inside (frames (w .log)) l (h .begins))) s′ l
+                  (frames-joined []) (ap length (cut-nothing [])) (omega (arith, h .below)) (omega (arith, h .end, begins-inside (frames (w .log)) l (h .begins))) s′ l
                   (es ∙ sym (stored-still s j (a .node)) ∙ ap (λ (x : AfterOffer). storedAfter s j (x .result .node) 0 0) (sym same)) (sym (put-nil l (s .end))),
             )

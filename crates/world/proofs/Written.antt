@@ -1,7 +1,7 @@
 -- The frames that a call wrote, cut out of the bytes again. Assumes nothing.
 use Prim.Native.Nat.{ℕ, zero, suc, _≤_}
 use mathlib.Core.List.{List, [], _∷_, _++_}
-use mathlib.Core.Path.{_≡_, refl, ap, ap₂, _∙_}
+use mathlib.Core.Path.{_≡_, ap, ap₂, _∙_}
 use native.Mathlib.Omega.{arith}
 use lib.ListN.{length, take, drop, length-map, length-drop, take-append-drop}
 use Rattle.wire.proofs.Bytes.{length-put}
@@ -30,11 +30,6 @@ cut-joined (suc k) (b ∷ s) h =
 
 pub frames-joined : (s : List ℕ) → joined (framesIn s) ≡ s
 frames-joined s = cut-joined (length s) s (omega arith)
-
--- no bytes, no frames
-pub no-frames : length (framesIn []) ≡ 0
-unfolding cutFor
-no-frames = refl
 
 -- as many frames as messages were issued
 pub wrote-frames : {out o : List ℕ} {bytes : ℕ} {l : List Message} → Wrote out o bytes l → length (framesIn (take bytes o)) ≡ length l
