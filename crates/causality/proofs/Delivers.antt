@@ -8,6 +8,7 @@ use mathlib.Core.Path.{_∙_, _≡_, ap, ap₂, refl, subst, sym}
 use native.Mathlib.Omega.{arith}
 use lib.Dec.{T, eqb, ltb}
 use lib.ListN.{getElem?, length}
+use Rattle.wire.specs.Limits.{maxBody}
 use Rattle.causality.proofs.Frames.{cut-nothing, issued-frames, trim-bare}
 use Rattle.causality.proofs.Matches.{Agrees}
 use Rattle.causality.proofs.Offers.{queue-passes, whole-back}
@@ -111,10 +112,10 @@ module _ (n cap : ℕ) (w : messages.World) (g : Good n (λ i. cap) w) (few : le
 
   -- check 3 is met, or not
   abbrev short : List ℕ → List ℕ → Bool
-  short out body = ltb (length out) outSize || ltb (length body) 64 || not (eqb (length q) queueSize)
+  short out body = ltb (length out) outSize || ltb (length body) maxBody || not (eqb (length q) queueSize)
 
   -- a deliver that is lent outputs of at least 2,048 and 64 bytes
-  pub deliver-agrees : (out body : List ℕ) → outSize ≤ length out → 64 ≤ length body → Left (deliver d) (deliverCall r q out body)
+  pub deliver-agrees : (out body : List ℕ) → outSize ≤ length out → maxBody ≤ length body → Left (deliver d) (deliverCall r q out body)
   unfolding deliverCall deliver
   deliver-agrees out body h k =
       let o : protocol.Outcome = deliver (nodeOf r (heldMessages (length (w .nodes i .held)) q)) in
@@ -130,15 +131,15 @@ module _ (n cap : ℕ) (w : messages.World) (g : Good n (λ i. cap) w) (few : le
     where
       long : T (not (short out body))
       long =
-          not-or (ltb (length out) outSize || ltb (length body) 64) (not (eqb (length q) queueSize))
-          (not-or (ltb (length out) outSize) (ltb (length body) 64) (le→nltb (length out) outSize h) (le→nltb (length body) 64 k))
+          not-or (ltb (length out) outSize || ltb (length body) maxBody) (not (eqb (length q) queueSize))
+          (not-or (ltb (length out) outSize) (ltb (length body) maxBody) (le→nltb (length out) outSize h) (le→nltb (length body) maxBody k))
           (T-not-not (eqb (length q) queueSize) (eq→eqb (length q) queueSize (queue-length n cap w g few bodies i hi)))
 
   -- one that is lent less
-  pub deliver-short : (out body : List ℕ) → T (ltb (length out) outSize || ltb (length body) 64) → deliverCall r q out body ≡ refuseDeliver 3 r q out body
+  pub deliver-short : (out body : List ℕ) → T (ltb (length out) outSize || ltb (length body) maxBody) → deliverCall r q out body ≡ refuseDeliver 3 r q out body
   unfolding deliverCall
   deliver-short out body h =
       let o : protocol.Outcome = deliver (nodeOf r (heldMessages (length (w .nodes i .held)) q)) in
       let t₄ : AfterDeliver = cond (wrongQueue (nodeOf r []) (length (w .nodes i .held)) q) (refuseDeliver 4 r q out body) (settle out body o) in
       cond-no (brokenRecord r) (refuseDeliver 2 r q out body) (cond (short out body) (refuseDeliver 3 r q out body) t₄) (record-kept n cap w g few i hi)
-      ∙ cond-yes (short out body) (refuseDeliver 3 r q out body) t₄ (either-T (ltb (length out) outSize || ltb (length body) 64) (not (eqb (length q) queueSize)) (inl h))
+      ∙ cond-yes (short out body) (refuseDeliver 3 r q out body) t₄ (either-T (ltb (length out) outSize || ltb (length body) maxBody) (not (eqb (length q) queueSize)) (inl h))

@@ -7,6 +7,7 @@ use mathlib.Core.Path.{_∙_, _≡_, ap, refl, subst, sym}
 use native.Mathlib.Omega.{arith}
 use lib.Dec.{T, ltb, ltb→lt, nltb→le}
 use lib.ListN.{getElem?, length}
+use Rattle.wire.specs.Limits.{maxBody}
 use Rattle.causality.proofs.Matches.{Matches, empty, encodeIssue}
 use Rattle.causality.proofs.Records.{range-T}
 use Rattle.causality.proofs.Steps.{deliver-matches, deliver-matches-short, forget, lentLess, offer-matches, send-matches, send-matches-short}
@@ -67,9 +68,9 @@ module _ (n cap : ℕ) (w : messages.World) (b : World) (g : Good n (λ i. cap) 
   deliver-step i out body =
       cond-elim (λ (x : messages.Step). Matches n (messages.step n w x) new) (lentLess out body) (messages.sends i i []) (messages.delivers i)
       (λ s. both n (ltb i n) (messages.afterStep w i (messages.sends i i []) (send (w .nodes i) i [])) w after b (λ t. deliver-matches-short n cap w b g few m i (ltb→lt i n t) out body s) m)
-      (λ s. let r = or-not (ltb (length out) outSize) (ltb (length body) 64) s in
+      (λ s. let r = or-not (ltb (length out) outSize) (ltb (length body) maxBody) s in
       both n (ltb i n) (messages.afterStep w i (messages.delivers i) (deliver (w .nodes i))) w after b
-      (λ t. deliver-matches n cap w b g few m i (ltb→lt i n t) out body (nltb→le (length out) outSize (r .0)) (nltb→le (length body) 64 (r .1))) m)
+      (λ t. deliver-matches n cap w b g few m i (ltb→lt i n t) out body (nltb→le (length out) outSize (r .0)) (nltb→le (length body) maxBody (r .1))) m)
     where
       after : World
       after = deliverAt b i (delivers i out body) (deliverCall (b .records i) (b .queues i) out body)

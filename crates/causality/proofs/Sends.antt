@@ -33,7 +33,7 @@ use Rattle.wire.proofs.Bytes.{small-bytes}
 use Rattle.trim.proofs.Bounds.{trim-bytes}
 use Rattle.wire.proofs.Tests.{cond-no, cond-yes, decide, is-false, le→nltb}
 use Rattle.wire.specs.Bytes.{AllBytes}
-use Rattle.wire.specs.Limits.{maxFrame}
+use Rattle.wire.specs.Limits.{maxBody, maxFrame}
 use Rattle.protocol.specs.World as messages
 use Rattle.protocol.specs.Answer as protocol
 use Rattle.protocol.specs.Node.{Node as MessageNode}
@@ -66,7 +66,7 @@ module _ (n cap : ℕ) (w : messages.World) (g : Good n (λ i. cap) w) (few : le
   -- a send is refused, or it is not, whatever is held
   data Case (to : ℕ) (body : List ℕ) : Type 0 where
     refuses : (k : ℕ) → T (not (eqb k 0)) → ((l : List Message) → send (with-held l) to body ≡ protocol.refuse k (with-held l)) → Case to body
-    accepts : length body ≤ 64 → ((l : List Message) → send (with-held l) to body ≡ sending (with-held l) to body) → Case to body
+    accepts : length body ≤ maxBody → ((l : List Message) → send (with-held l) to body ≡ sending (with-held l) to body) → Case to body
 
   case : (to : ℕ) (body : List ℕ) → Case to body
   unfolding send
@@ -84,11 +84,11 @@ module _ (n cap : ℕ) (w : messages.World) (g : Good n (λ i. cap) w) (few : le
           refuses 7 tt (λ l. cond-no (atLimit (with-held l)) (protocol.refuse 5 (with-held l)) (rest l) (free l) ∙ cond-no (eqb to i || not (ltb to n)) (protocol.refuse 6 (with-held l)) (last l) a
           ∙ cond-yes (longBody body) (protocol.refuse 7 (with-held l)) (sending (with-held l) to body) b)
       go (inr a) (inr b) =
-          accepts (nltb→le 64 (length body) b) (λ l. cond-no (atLimit (with-held l)) (protocol.refuse 5 (with-held l)) (rest l) (free l) ∙ cond-no (eqb to i || not (ltb to n)) (protocol.refuse 6 (with-held l)) (last l) a
+          accepts (nltb→le maxBody (length body) b) (λ l. cond-no (atLimit (with-held l)) (protocol.refuse 5 (with-held l)) (rest l) (free l) ∙ cond-no (eqb to i || not (ltb to n)) (protocol.refuse 6 (with-held l)) (last l) a
           ∙ cond-no (longBody body) (protocol.refuse 7 (with-held l)) (sending (with-held l) to body) b)
 
   -- the user frame fits
-  user-fits : (to : ℕ) (body : List ℕ) → length body ≤ 64 → length (encode (sentMessage d to body)) ≤ maxFrame
+  user-fits : (to : ℕ) (body : List ℕ) → length body ≤ maxBody → length (encode (sentMessage d to body)) ≤ maxFrame
   user-fits to body h =
       omega (
         arith,

@@ -6,6 +6,7 @@ use mathlib.Core.Path.{_∙_, _≡_, ap, refl, subst, sym}
 use native.Mathlib.Omega.{arith}
 use lib.Dec.{T, ltb}
 use lib.ListN.{length}
+use Rattle.wire.specs.Limits.{maxBody}
 use Rattle.causality.proofs.Delivers.{deliver-agrees, deliver-short}
 use Rattle.causality.proofs.Matches.{Agrees, Matches, SameStep, matches-after}
 use Rattle.causality.proofs.Offers.{offer-agrees}
@@ -34,7 +35,7 @@ use Rattle.protocol.specs.Deliver.{deliver}
 
 -- whether a deliver is lent too little
 abbrev pub lentLess : List ℕ → List ℕ → Bool
-lentLess out body = ltb (length out) outSize || ltb (length body) 64
+lentLess out body = ltb (length out) outSize || ltb (length body) maxBody
 
 -- the step on messages: a call that is lent too little is refused, as a send to itself is
 abbrev pub forget : Step → messages.Step
@@ -147,10 +148,10 @@ module _ (n cap : ℕ) (w : messages.World) (b : World) (g : Good n (λ i. cap) 
     given-with : (o : protocol.Outcome) → GivenWith o (recordOf d) (laid (map encode (w .nodes i .held))) → GivenWith o (b .records i) (b .queues i)
     given-with o h = subst (λ (r : Record). GivenWith o r (b .queues i)) (sym same-record) (subst (λ (q : List ℕ). GivenWith o (recordOf d) q) (sym same-queue) h)
 
-    pub given-here : outSize ≤ length out → 64 ≤ length body → GivenWith (deliver d) (b .records i) (b .queues i)
+    pub given-here : outSize ≤ length out → maxBody ≤ length body → GivenWith (deliver d) (b .records i) (b .queues i)
     given-here h k = given-with (deliver d) (deliver-agrees n cap w g few (m .bodies) i hi out body h k)
 
-    pub deliver-matches : outSize ≤ length out → 64 ≤ length body → Given (messages.delivers i) (deliver (w .nodes i))
+    pub deliver-matches : outSize ≤ length out → maxBody ≤ length body → Given (messages.delivers i) (deliver (w .nodes i))
     deliver-matches h k =
         let c : AfterDeliver = deliverCall (b .records i) (b .queues i) out body in
         matched (messages.delivers i) (delivers i out body) (deliver-deliver i i out body) deliver (c .result .node) (c .queue) (delivered (c .result .answer)) (c .out) (given-here h k)
