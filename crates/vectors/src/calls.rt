@@ -1,273 +1,253 @@
 //! The node's four calls, made on the script's records and queues, and their answers printed. Outputs are lent full of the byte 165, so that what a call leaves as it was can be told.
+use super::show;
 use super::state;
+use super::state::Cells;
 use super::text;
+use super::text::Line;
 use node::DeliverAnswer;
 use node::Delivered;
-use node::Delivery;
 use node::Node;
 use node::OfferAnswer;
-use node::Offered;
 use node::SendAnswer;
-use node::Sent;
 use node::SetUpAnswer;
+ghost use Prim.Native.Nat.{_≤_};
 
-/// Set-up into record k.
-pub fn set_up(records: &mut [u32], k: usize, me: usize, n: usize, cap: usize) {
-    let r = Node::set_up(me, n, cap);
-    state::store(records, k, r.node);
+enum Answer {
+    Send(SendAnswer),
+    Offer(OfferAnswer),
+    Deliver(DeliverAnswer),
+}
+
+/// What a call answers, the record, and what it was lent, as it is then.
+struct Made {
+    answer: Answer,
+    node: Node,
+    queue: [u8; 12840],
+    out: [u8; 4096],
+    body: [u8; 128],
+}
+
+/// Set-up into record a.
+pub fn set_up(s: &mut Cells, l: Line) {
+    let r = Node::set_up(l.b, l.c, l.d);
+    state::store(s, l.a, r.node);
     let answer = r.answer;
     match answer {
-        SetUpAnswer::Refused(why) => text::print(b"  refused %\n", &[text::wide(why)]),
+        SetUpAnswer::Refused(why) => text::print(b"  refused %\n", text::wide(why), 0, 0),
         SetUpAnswer::Ready => text::say(b"  ready\n"),
     }
 }
 
-// Prints a refusal, and whether record and buffers are as they were.
-fn refused(why: u8, kept: bool) {
-    text::print(b"  refused %", &[text::wide(why)]);
-    if kept {
+// The bytes of queue k.
+fn queue(s: &Cells, k: usize) -> [u8; 12840] {
+    let mut bytes = [0u8; 12840];
+    state::load_bytes(s, state::queue(k), &mut bytes);
+    bytes
+}
+
+// Send from record a to node b, with a body of c bytes and an output of d.
+fn send(s: &Cells, l: Line) -> Made {
+    let pattern = text::pattern();
+    let b = text::within(&pattern, l.c);
+    let mut out = [165u8; 4096];
+    let o = text::within(&out, l.d);
+    let r = state::load(s, l.a).send(l.b, &pattern[..b], &mut out[..o]);
+    let answer = r.answer;
+    let node = r.node;
+    Made {
+        answer: Answer::Send(answer),
+        node,
+        queue: queue(s, l.a),
+        out,
+        body: [165; 128],
+    }
+}
+
+// Offer of the frame at hand at record a, with a queue of length b.
+fn offer(s: &Cells, l: Line) -> Made {
+    let mut frame = [0u8; 1100];
+    state::load_bytes(s, state::FRAME, &mut frame);
+    let z = text::within(&frame, state::at(s, state::LENGTH, 0));
+    let mut held = queue(s, l.a);
+    let q = text::within(&held, l.b);
+    let r = state::load(s, l.a).offer(&frame[..z], &mut held[..q]);
+    let answer = r.answer;
+    let node = r.node;
+    Made {
+        answer: Answer::Offer(answer),
+        node,
+        queue: held,
+        out: [165; 4096],
+        body: [165; 128],
+    }
+}
+
+// Deliver at record a, with a queue of length b, an output of c and a body output of d.
+fn deliver(s: &Cells, l: Line) -> Made {
+    let mut held = queue(s, l.a);
+    let q = text::within(&held, l.b);
+    let mut out = [165u8; 4096];
+    let o = text::within(&out, l.c);
+    let mut body = [165u8; 128];
+    let b = text::within(&body, l.d);
+    let r = state::load(s, l.a).deliver(&mut held[..q], &mut out[..o], &mut body[..b]);
+    let answer = r.answer;
+    let node = r.node;
+    Made {
+        answer: Answer::Deliver(answer),
+        node,
+        queue: held,
+        out,
+        body,
+    }
+}
+
+// Makes the call.
+fn perform(s: &Cells, l: Line) -> Made {
+    let what = l.what;
+    match what {
+        b'S' => send(s, l),
+        b'O' => offer(s, l),
+        _ => deliver(s, l),
+    }
+}
+
+/// Send, offer or deliver: makes the call, keeps what it left, prints its answer and logs its frames.
+pub fn call(s: &mut Cells, l: Line) {
+    let m = perform(s, l);
+    state::store_bytes(s, state::OUT, &m.out);
+    state::store_bytes(s, state::BODY, &m.body);
+    state::put(s, state::CHANGED, 0, 0);
+    state::store_bytes(s, state::queue(l.a), &m.queue);
+    state::store(s, l.a, m.node);
+    let answer = m.answer;
+    let bytes = print_answer(s, answer);
+    log_frames(s, bytes);
+}
+
+// Prints an answer, and tells how many bytes of frames were issued.
+fn print_answer(s: &Cells, answer: Answer) -> usize {
+    match answer {
+        Answer::Send(a) => print_send(s, a),
+        Answer::Offer(a) => print_offer(s, a),
+        Answer::Deliver(a) => print_deliver(s, a),
+    }
+}
+
+// Whether record, queue and outputs are as they were.
+fn kept(s: &Cells) -> bool {
+    state::at(s, state::CHANGED, 0) == 0 && state::filled(s, state::OUT, 0, 4224, 165)
+}
+
+// Prints a refusal.
+fn refused(s: &Cells, why: u8) -> usize {
+    text::print(b"  refused %", text::wide(why), 0, 0);
+    if kept(s) {
         text::say(b", all kept\n");
     } else {
         text::say(b", CHANGED\n");
     }
+    0
 }
 
 // Ends a line, and tells where a call wrote more than its answer counts.
-fn end(kept: bool) {
-    if kept {
+fn end(within: bool) {
+    if within {
         text::say(b"\n");
     } else {
         text::say(b", MORE WRITTEN\n");
     }
 }
 
-// The body that is sent: the bytes O, P, Q and so on.
-fn pattern() -> [u8; 128] {
-    let mut body = [0u8; 128];
-    let mut i: usize = 0;
-    while i < 128 {
-        body[i] = ((79 + i) % 256) as u8;
-        i += 1;
-    }
-    body
-}
-
-// Prints a frame: its number in the log, header, entries, body and trailer.
-pub fn print_frame(s: &[u8]) {
-    text::hex_part(s, 0, 8);
-    let e = text::wide(state::byte_at(s, 3)) % 256;
-    let mut i: usize = 0;
-    while i < e {
-        text::say(b" ");
-        text::hex_part(s, 8 + 6 * i, 14 + 6 * i);
-        i += 1;
-    }
-    let body = 8 + 6 * e;
-    let end = state::frame_length(s, 0) - 4;
-    if body < end {
-        text::say(b" ");
-    }
-    text::hex_part(s, body, end);
-    text::say(b" ");
-    text::hex_part(s, end, s.len());
-    text::say(b"\n");
-}
-
-// Puts an issued frame into the log and prints it with its number there.
-fn log_frame(log: &mut [u8], vars: &mut [usize], s: &[u8]) {
-    let i = state::number_at(vars, 0) % 128;
-    state::put_number(vars, 0, i + 1);
-    state::paste(log, i * 802, s);
-    text::print(b"  %: ", &[i + 1]);
-    print_frame(s);
-}
-
-// Takes the frames that a call issued apart, by their own lengths.
-fn log_frames(log: &mut [u8], vars: &mut [usize], out: &[u8], bytes: usize) {
-    let n = text::least(bytes, out.len());
-    let mut at: usize = 0;
-    while at < n {
-        let e = text::least(at + state::frame_length(out, at), n);
-        if e <= at {
-            return;
-        }
-        log_frame(log, vars, &out[at..e]);
-        at = e;
-    }
-}
-
-// Send with the first b bytes of a body and the first o of an output.
-fn send_part(record: Node, to: usize, body: &[u8], b: usize, out: &mut [u8], o: usize) -> Sent {
-    let bytes = text::within(body, b);
-    let room = text::within(out, o);
-    record.send(to, &body[..bytes], &mut out[..room])
-}
-
-/// Send from record k to node `to`, with a body of b bytes and an output of o.
-pub fn send(
-    records: &mut [u32],
-    log: &mut [u8],
-    vars: &mut [usize],
-    k: usize,
-    to: usize,
-    b: usize,
-    o: usize,
-) {
-    let body = pattern();
-    let mut out = [165u8; 4096];
-    let before = state::load(records, k);
-    let r = send_part(before, to, &body, b, &mut out, o);
-    let after = r.node;
-    state::store(records, k, after);
-    let answer = r.answer;
+// Prints what send answered.
+fn print_send(s: &Cells, answer: SendAnswer) -> usize {
     match answer {
-        SendAnswer::Refused(why) => {
-            refused(
-                why,
-                state::same(before, after) && state::filled(&out, 0, 165),
-            );
-        }
+        SendAnswer::Refused(why) => refused(s, why),
         SendAnswer::Sent { bytes, extras } => {
-            text::print(b"  sent: bytes %, extras %", &[bytes, extras]);
-            end(state::filled(&out, bytes, 165));
-            log_frames(log, vars, &out, bytes);
+            text::print(b"  sent: bytes %, extras %", bytes, extras, 0);
+            end(state::filled(s, state::OUT, bytes, 4096, 165));
+            bytes
         }
     }
 }
 
-// Offer of the first z bytes of a frame, with the first q of a queue.
-fn offer_part(record: Node, frame: &[u8], z: usize, queue: &mut [u8], q: usize) -> Offered {
-    let bytes = text::within(frame, z);
-    let room = text::within(queue, q);
-    record.offer(&frame[..bytes], &mut queue[..room])
-}
-
-/// Offer of the first z bytes of `current` at record k, with a queue of length q.
-pub fn offer(records: &mut [u32], queues: &mut [u8], current: &[u8], z: usize, k: usize, q: usize) {
-    let a = state::queue_start(k);
-    let e = a + 12840;
-    if queues.len() < e {
-        return;
-    }
-    let mut old = [0u8; 12840];
-    state::fetch(&mut old, queues, a);
-    let before = state::load(records, k);
-    let r = offer_part(before, current, z, &mut queues[a..e], q);
-    let after = r.node;
-    state::store(records, k, after);
-    let answer = r.answer;
+// Prints what offer answered.
+fn print_offer(s: &Cells, answer: OfferAnswer) -> usize {
     match answer {
-        OfferAnswer::Refused(why) => {
-            refused(
-                why,
-                state::same(before, after) && state::stands(queues, a, &old),
-            );
-        }
+        OfferAnswer::Refused(why) => refused(s, why),
         OfferAnswer::Held { count, ready } => held(count, ready),
     }
 }
 
 // Prints that a frame is held.
-fn held(count: usize, ready: bool) {
+fn held(count: usize, ready: bool) -> usize {
+    text::print(b"  held: %", count, 0, 0);
     if ready {
-        text::print(b"  held: %, deliverable\n", &[count]);
+        text::say(b", deliverable\n");
     } else {
-        text::print(b"  held: %, waits\n", &[count]);
+        text::say(b", waits\n");
+    }
+    0
+}
+
+// Prints what deliver answered.
+fn print_deliver(s: &Cells, answer: DeliverAnswer) -> usize {
+    match answer {
+        DeliverAnswer::Refused(why) => refused(s, why),
+        DeliverAnswer::Nothing(tried) => {
+            text::print(b"  none: tried %", tried, 0, 0);
+            end(kept(s));
+            0
+        }
+        DeliverAnswer::Frame(d) => delivered(s, d),
     }
 }
 
-// Prints a delivery, its body and the frames that it issued.
-fn delivered(log: &mut [u8], vars: &mut [usize], d: Delivered, out: &[u8], body: &[u8]) {
+// Prints a delivery and its body.
+fn delivered(s: &Cells, d: Delivered) -> usize {
     if d.kind == 1 {
         text::say(b"  delivered: user");
     } else {
         text::say(b"  delivered: extra");
     }
     text::print(
-        b" from %, number %, tried %, body %, bytes %, extras %",
-        &[
-            text::wide(d.from),
-            text::wide32(d.number),
-            d.tried,
-            d.body,
-            d.bytes,
-            d.extras,
-        ],
+        b" from %, number %, tried %",
+        text::wide(d.from),
+        text::wide32(d.number),
+        d.tried,
     );
-    end(state::filled(out, d.bytes, 165) && state::filled(body, d.body, 165));
+    text::print(b", body %, bytes %, extras %", d.body, d.bytes, d.extras);
+    end(
+        state::filled(s, state::OUT, d.bytes, 4096, 165)
+            && state::filled(s, state::BODY, d.body, 128, 165),
+    );
     if 0 < d.body {
-        text::say(b"  body: ");
-        text::hex_part(body, 0, d.body);
+        text::say(b"  body:");
+        text::hex(s, state::BODY, 0, d.body, 128, 128);
         text::say(b"\n");
     }
-    log_frames(log, vars, out, d.bytes);
+    d.bytes
 }
 
-// Deliver with the first q bytes of a queue, o of an output and b of a body output.
-fn deliver_part(
-    record: Node,
-    queue: &mut [u8],
-    q: usize,
-    out: &mut [u8],
-    o: usize,
-    body: &mut [u8],
-    b: usize,
-) -> Delivery {
-    let all = text::within(queue, q);
-    let room = text::within(out, o);
-    let bytes = text::within(body, b);
-    record.deliver(&mut queue[..all], &mut out[..room], &mut body[..bytes])
+// Puts the issued frame at a into the log, prints it with its number there, and tells its length.
+fn log_frame(s: &mut Cells, a: usize) -> usize
+    ensures { λ r. ⌜ 12 ≤ r ⌝ }
+    ensures { λ r. ⌜ r ≤ 2000 ⌝ }
+{
+    let i = state::at(s, state::COUNT, 0) % 128;
+    let z = state::frame_length(s, a);
+    text::print(b"  %:", i + 1, 0, 0);
+    show::print_frame(s, a, z);
+    state::copy(s, state::LOG + 802 * i, 802, a, z);
+    state::put(s, state::COUNT, 0, i + 1);
+    z
 }
 
-/// Deliver at record k, with a queue of length q, an output of o and a body output of b.
-pub fn deliver(
-    records: &mut [u32],
-    queues: &mut [u8],
-    log: &mut [u8],
-    vars: &mut [usize],
-    k: usize,
-    q: usize,
-    o: usize,
-    b: usize,
-) {
-    let a = state::queue_start(k);
-    let e = a + 12840;
-    if queues.len() < e {
-        return;
-    }
-    let mut old = [0u8; 12840];
-    state::fetch(&mut old, queues, a);
-    let mut out = [165u8; 4096];
-    let mut body = [165u8; 128];
-    let before = state::load(records, k);
-    let r = deliver_part(before, &mut queues[a..e], q, &mut out, o, &mut body, b);
-    let after = r.node;
-    state::store(records, k, after);
-    let kept = state::same(before, after) && state::stands(queues, a, &old);
-    let answer = r.answer;
-    print_delivery(log, vars, answer, kept, &out, &body);
-}
-
-// Prints what deliver answered.
-fn print_delivery(
-    log: &mut [u8],
-    vars: &mut [usize],
-    answer: DeliverAnswer,
-    kept: bool,
-    out: &[u8],
-    body: &[u8],
-) {
-    match answer {
-        DeliverAnswer::Refused(why) => {
-            refused(
-                why,
-                kept && state::filled(out, 0, 165) && state::filled(body, 0, 165),
-            );
-        }
-        DeliverAnswer::Nothing(tried) => {
-            text::print(b"  none: tried %", &[tried]);
-            end(kept && state::filled(out, 0, 165) && state::filled(body, 0, 165));
-        }
-        DeliverAnswer::Frame(d) => delivered(log, vars, d, out, body),
+// Takes the frames that a call issued apart, by their own lengths.
+fn log_frames(s: &mut Cells, bytes: usize) {
+    let n = text::least(bytes, 4096);
+    let mut i: usize = 0;
+    while i < n {
+        i += log_frame(s, state::OUT + i);
     }
 }

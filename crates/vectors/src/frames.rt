@@ -1,109 +1,88 @@
 //! The frame at hand: made from its fields, changed, closed by its trailer.
+use super::show;
 use super::state;
+use super::state::Cells;
 use super::text;
+use super::text::Line;
+ghost use Prim.Native.Nat.{_≤_};
 
-/// Clears the frame at hand and writes its header: kind, from, to, e, b, n, cap, from field 1 on. Its body is O, P, Q and so on.
-pub fn make(current: &mut [u8], vars: &mut [usize], f: [usize; 8]) {
-    clear(current);
-    let mut i: usize = 0;
-    while i < 7 {
-        state::put_byte(current, i, text::byte(f[i + 1]));
-        i += 1;
-    }
-    let z = state::frame_length(current, 0);
-    state::put_number(vars, 1, z);
-    body(current, z);
-}
-
-/// Zeros.
-pub fn clear(s: &mut [u8]) {
-    let mut i: usize = 0;
-    while i < s.len() {
-        s[i] = 0;
-        i += 1;
-    }
-}
-
-// The body of a frame of z bytes, as far in front of its trailer as its b says.
-fn body(current: &mut [u8], z: usize) {
-    let b = text::wide(state::byte_at(current, 4)) % 256;
-    let n = text::least(z, 4096);
-    if n < b + 4 {
-        return;
-    }
-    let a = n - 4 - b;
-    let mut i: usize = 0;
-    while i < b {
-        state::put_byte(current, a + i, ((79 + i) % 256) as u8);
-        i += 1;
-    }
-}
-
-/// Writes six bytes of the frame at hand, its entry i: row, column and value.
-pub fn entry(current: &mut [u8], i: usize, row: u8, column: u8, value: u32) {
-    let a = 8 + 6 * text::least(i, 255);
-    let bytes = [
-        row,
-        column,
-        (value % 256) as u8,
-        (value / 256 % 256) as u8,
-        (value / 65536 % 256) as u8,
-        (value / 16777216 % 256) as u8,
+/// A new frame: its header is kind, from, to, e, b, n, cap.
+pub fn make(s: &mut Cells, l: Line) {
+    let header = [
+        text::byte(l.a),
+        text::byte(l.b),
+        text::byte(l.c),
+        text::byte(l.d),
+        text::byte(l.e),
+        text::byte(l.f),
+        text::byte(l.g),
     ];
-    state::paste(current, a, &bytes);
+    state::copy(s, state::FRAME, 1100, 0, 0);
+    state::store_bytes(s, state::FRAME, &header);
+    state::put(s, state::LENGTH, 0, state::frame_length(s, state::FRAME));
+    let body = text::pattern();
+    let b = text::within(&body, l.e % 256);
+    state::store_bytes(s, state::FRAME + 8 + 6 * (l.d % 256), &body[..b]);
 }
 
-// The sum of the first z bytes, modulo 65,536.
-fn sum(s: &[u8], z: usize) -> usize {
+/// Writes entry a: row, column and value.
+pub fn entry(s: &mut Cells, l: Line) {
+    let bytes = [
+        text::byte(l.b),
+        text::byte(l.c),
+        text::byte(l.d),
+        text::byte(l.d / 256),
+        text::byte(l.d / 65536),
+        text::byte(l.d / 16777216),
+    ];
+    state::store_bytes(s, state::FRAME + 8 + 6 * text::least(l.a, 255), &bytes);
+}
+
+// The sum of the first n bytes, modulo 65,536.
+fn sum(s: &Cells, n: usize) -> usize {
     let mut total: usize = 0;
     let mut i: usize = 0;
-    while i < z {
-        total = (total + text::wide(state::byte_at(s, i)) % 256) % 65536;
+    while i < n {
+        total = (total + state::at(s, state::FRAME, i) % 256) % 65536;
         i += 1;
     }
     total
 }
 
-/// Closes the frame at hand, of z bytes, by its trailer: the count in front of it and the sum.
-pub fn close(current: &mut [u8], z: usize) {
-    if z < 4 {
-        return;
+// Writes the trailer behind n bytes: their count and the sum.
+fn trailer(s: &mut Cells, n: usize)
+    requires { ⌜ n ≤ 1100 ⌝ }
+{
+    let count = [text::byte(n), text::byte(n / 256)];
+    state::store_bytes(s, state::FRAME + n, &count);
+    let total = sum(s, n + 2);
+    let bytes = [text::byte(total), text::byte(total / 256)];
+    state::store_bytes(s, state::FRAME + n + 2, &bytes);
+}
+
+/// Closes the frame by its trailer, and prints it.
+pub fn close(s: &mut Cells) {
+    let z = text::least(state::at(s, state::LENGTH, 0), 1100);
+    if 4 <= z {
+        trailer(s, z - 4);
     }
-    let a = z - 4;
-    state::paste(current, a, &[(a % 256) as u8, (a / 256 % 256) as u8]);
-    let total = sum(current, a + 2);
-    state::paste(
-        current,
-        a + 2,
-        &[(total % 256) as u8, (total / 256 % 256) as u8],
-    );
+    text::say(b" ");
+    show::print_frame(s, state::FRAME, z);
 }
 
 /// Takes issue i of the log, counted from 1, as the frame at hand.
-pub fn take(current: &mut [u8], vars: &mut [usize], log: &[u8], i: usize) {
+pub fn take(s: &mut Cells, i: usize) {
     if i == 0 {
         return;
     }
-    let a = 802 * text::least(i - 1, 127);
-    let mut frame = [0u8; 802];
-    state::fetch(&mut frame, log, a);
-    clear(current);
-    state::paste(current, 0, &frame);
-    state::put_number(vars, 1, state::frame_length(current, 0));
+    let a = state::LOG + 802 * text::least(i - 1, 127);
+    state::copy(s, state::FRAME, 1100, a, 802);
+    state::put(s, state::LENGTH, 0, state::frame_length(s, a));
 }
 
-/// Puts the frame at hand, of z bytes, into slot p of queue k, with zeros behind it.
-pub fn place(queues: &mut [u8], current: &[u8], z: usize, k: usize, p: usize) {
-    let mut slot = [0u8; 802];
-    let n = text::within(current, text::least(z, 802));
-    state::paste(&mut slot, 0, &current[..n]);
-    let a = state::queue_start(k) + 802 * text::least(p, 15);
-    state::paste(queues, a, &slot);
-}
-
-/// Prints the frame at hand.
-pub fn print(current: &[u8], z: usize) {
-    let n = text::within(current, z);
-    text::say(b"  ");
-    super::calls::print_frame(&current[..n]);
+/// Puts the frame at hand into slot p of queue k, with zeros behind it.
+pub fn place(s: &mut Cells, k: usize, p: usize) {
+    let a = state::queue(k) + 802 * text::least(p, 15);
+    let z = state::at(s, state::LENGTH, 0);
+    state::copy(s, a, 802, state::FRAME, z);
 }

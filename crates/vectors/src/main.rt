@@ -23,186 +23,77 @@ mod show;
 mod state;
 mod text;
 
-// Zeros.
-fn clear_counts(s: &mut [u32]) {
-    let mut i: usize = 0;
-    while i < s.len() {
-        s[i] = 0;
-        i += 1;
-    }
-}
+use state::Cells;
+use text::Line;
 
-// Everything as at first.
-fn reset(
-    records: &mut [u32],
-    queues: &mut [u8],
-    log: &mut [u8],
-    current: &mut [u8],
-    vars: &mut [usize],
-) {
-    clear_counts(records);
-    frames::clear(queues);
-    frames::clear(log);
-    frames::clear(current);
-    state::put_number(vars, 0, 0);
-    state::put_number(vars, 1, 0);
-}
-
-// Writes the small numbers of record k.
-fn small(records: &mut [u32], k: usize, f: [usize; 8]) {
-    let s = [
-        text::count(f[2]),
-        text::count(f[3]),
-        text::count(f[4]),
-        text::count(f[5]),
+// Writes the small numbers of record a.
+fn small(s: &mut Cells, l: Line) {
+    let bytes = [
+        text::byte(l.b),
+        text::byte(l.c),
+        text::byte(l.d),
+        text::byte(l.e),
     ];
-    state::put_counts(records, state::record_start(k), &s);
+    state::store_bytes(s, state::record(l.a), &bytes);
 }
 
-// Writes v at M[x,y] of record k.
-fn entry(records: &mut [u32], k: usize, x: usize, y: usize, v: usize) {
-    let a = state::record_start(k) + 4 + 12 * (x % 12) + y % 12;
-    state::put_count(records, a, text::count(v));
+// Writes the count v at place i of record k.
+fn count(s: &mut Cells, k: usize, i: usize, v: usize) {
+    state::put(s, state::record(k), i, v % 4294967296);
 }
 
-// The same where x is not y.
-fn entry_off(records: &mut [u32], k: usize, x: usize, y: usize, v: usize) {
-    if x != y {
-        entry(records, k, x, y, v);
-    }
+// The place of M[x,y] in a record.
+fn place(x: usize, y: usize) -> usize {
+    4 + 12 * (x % 12) + y % 12
 }
 
-// Writes v at M[x,y] of record k for each row x from a to b but y.
-fn column(records: &mut [u32], k: usize, y: usize, a: usize, b: usize, v: usize) {
-    let last = text::least(b, 11);
-    let mut x = a;
+// Writes e at M[x,b] of record a for each row x from c to d but b.
+fn column(s: &mut Cells, l: Line) {
+    let last = text::least(l.d, 11);
+    let mut x = l.c;
     while x <= last {
-        entry_off(records, k, x, y, v);
+        if x != l.b {
+            count(s, l.a, place(x, l.b), l.e);
+        }
         x += 1;
     }
 }
 
-// Writes v at DELIV[x] of record k.
-fn vector(records: &mut [u32], k: usize, x: usize, v: usize) {
-    let a = state::record_start(k) + 148 + x % 12;
-    state::put_count(records, a, text::count(v));
-}
-
-// Writes v at byte p of queue k.
-fn queue_byte(queues: &mut [u8], k: usize, p: usize, v: usize) {
-    let a = state::queue_start(k) + text::least(p, 12839);
-    state::put_byte(queues, a, text::byte(v));
-}
-
-// A call, or what is printed of records and queues.
-fn call(
-    what: u8,
-    f: [usize; 8],
-    records: &mut [u32],
-    queues: &mut [u8],
-    log: &mut [u8],
-    current: &[u8],
-    vars: &mut [usize],
-) {
-    let k = f[1];
+// Runs a command.
+fn run(s: &mut Cells, l: Line) {
+    let what = l.what;
     match what {
-        b'U' => calls::set_up(records, k, f[2], f[3], f[4]),
-        b'S' => calls::send(records, log, vars, k, f[2], f[3], f[4]),
-        b'O' => {
-            let z = state::number_at(vars, 1);
-            calls::offer(records, queues, current, z, k, f[2]);
-        }
-        b'D' => calls::deliver(records, queues, log, vars, k, f[2], f[3], f[4]),
-        b'R' => show::show_record(state::load(records, k)),
-        b'K' => show::show_queue(queues, k),
+        b'Z' => state::copy(s, 0, state::ALL, 0, 0),
+        b'U' => calls::set_up(s, l),
+        b'S' | b'O' | b'D' => calls::call(s, l),
+        b'R' => show::show_record(s, l.a),
+        b'K' => show::show_queue(s, l.a),
+        b'I' => small(s, l),
+        b'M' => count(s, l.a, place(l.b, l.c), l.d),
+        b'V' => count(s, l.a, 148 + l.b % 12, l.c),
+        b'A' => column(s, l),
+        b'Q' => state::put(s, state::queue(l.a), text::least(l.b, 12839), l.c % 256),
+        b'P' => frames::place(s, l.a, l.b),
+        b'F' => frames::take(s, l.a),
+        b'X' => frames::make(s, l),
+        b'E' => frames::entry(s, l),
+        b'B' => state::put(s, state::FRAME, l.a, l.b % 256),
+        b'L' => state::put(s, state::LENGTH, 0, l.a),
+        b'T' => frames::close(s),
         _ => (),
     }
 }
 
-// A write to records or queues, with a frame at hand of z bytes.
-fn write(
-    what: u8,
-    f: [usize; 8],
-    records: &mut [u32],
-    queues: &mut [u8],
-    current: &[u8],
-    z: usize,
-) {
-    let k = f[1];
-    match what {
-        b'I' => small(records, k, f),
-        b'M' => entry(records, k, f[2], f[3], f[4]),
-        b'A' => column(records, k, f[2], f[3], f[4], f[5]),
-        b'V' => vector(records, k, f[2], f[3]),
-        b'Q' => queue_byte(queues, k, f[2], f[3]),
-        b'P' => frames::place(queues, current, z, k, f[2]),
-        _ => (),
-    }
-}
-
-// A command on the frame at hand, of z bytes.
-fn frame(what: u8, f: [usize; 8], log: &[u8], current: &mut [u8], vars: &mut [usize], z: usize) {
-    match what {
-        b'F' => frames::take(current, vars, log, f[1]),
-        b'X' => frames::make(current, vars, f),
-        b'E' => {
-            frames::entry(
-                current,
-                f[1],
-                text::byte(f[2]),
-                text::byte(f[3]),
-                text::count(f[4]),
-            );
-        }
-        b'B' => state::put_byte(current, f[1], text::byte(f[2])),
-        b'L' => state::put_number(vars, 1, f[1]),
-        b'T' => {
-            frames::close(current, text::least(z, current.len()));
-            frames::print(current, z);
-        }
-        _ => (),
-    }
-}
-
-// Prints a line and runs its command.
-fn run(
-    line: &[u8],
-    records: &mut [u32],
-    queues: &mut [u8],
-    log: &mut [u8],
-    current: &mut [u8],
-    vars: &mut [usize],
-) {
-    text::say(line);
-    text::say(b"\n");
-    let what = text::letter(line);
-    if what == b'Z' {
-        reset(records, queues, log, current, vars);
-        return;
-    }
-    let f = text::fields(line);
-    let z = state::number_at(vars, 1);
-    call(what, f, records, queues, log, current, vars);
-    write(what, f, records, queues, current, z);
-    frame(what, f, log, current, vars, z);
-}
-
-// Runs each line of a script.
-fn script(
-    input: &[u8],
-    records: &mut [u32],
-    queues: &mut [u8],
-    log: &mut [u8],
-    current: &mut [u8],
-    vars: &mut [usize],
-) {
+// Prints each line of a script and runs its command.
+fn script(s: &mut Cells, input: &[u8]) {
     let mut start: usize = 0;
     let mut i: usize = 0;
     while i < input.len() {
         let at = i;
         i += 1;
         if input[at] == b'\n' {
-            run(&input[start..at], records, queues, log, current, vars);
+            text::say(&input[start..i]);
+            run(s, text::command(&input[start..at]));
             start = i;
         }
     }
@@ -211,17 +102,6 @@ fn script(
 fn main() {
     let mut input = io::large_buffer();
     let n = io::read_full(0, &mut input);
-    let mut records = [0u32; 1920];
-    let mut queues = [0u8; 154080];
-    let mut log = [0u8; 102656];
-    let mut current = [0u8; 1100];
-    let mut vars = [0usize; 2];
-    script(
-        &input[..n],
-        &mut records,
-        &mut queues,
-        &mut log,
-        &mut current,
-        &mut vars,
-    );
+    let mut cells = [0usize; state::ALL];
+    script(&mut cells, &input[..n]);
 }

@@ -1,5 +1,7 @@
-//! Text in and out: the fields of a line, numbers and bytes printed.
-ghost use Prim.Native.Nat.{_≤_};
+//! Text in and out: the numbers of a line, numbers and bytes printed.
+use super::state;
+use super::state::Cells;
+ghost use Prim.Native.Nat.{_≤_, _<_};
 ghost use Rattle.io.specs.Counts.{Counts};
 
 /// The smaller of two numbers.
@@ -27,42 +29,6 @@ pub fn wide32(v: u32) -> usize {
     v as usize
 }
 
-/// The field that a line is at, and the numbers of its fields: field k is counted from 1 behind the command's letter, and 0 where there is none.
-struct Scan {
-    at: usize,
-    value: [usize; 8],
-}
-
-// One byte further in a line. A number has at most ten digits: more push the first ones out.
-fn scanned(f: Scan, b: u8) -> Scan {
-    let at = f.at % 8;
-    let mut next = f;
-    if b == b' ' {
-        next.at = at + 1;
-        return next;
-    }
-    if b < b'0' {
-        return next;
-    }
-    let v = f.value[at];
-    next.value[at] = v % 1_000_000_000 * 10 + wide(b - b'0') % 10;
-    next
-}
-
-/// The numbers of a line.
-pub fn fields(line: &[u8]) -> [usize; 8] {
-    let mut f = Scan {
-        at: 0,
-        value: [0; 8],
-    };
-    let mut i: usize = 0;
-    while i < line.len() {
-        f = scanned(f, line[i]);
-        i += 1;
-    }
-    f.value
-}
-
 /// A number cut to 32 bits.
 pub fn count(n: usize) -> u32 {
     (n % 4294967296) as u32
@@ -73,9 +39,81 @@ pub fn byte(n: usize) -> u8 {
     (n % 256) as u8
 }
 
-/// The first byte of a line, 0 of an empty one.
-pub fn letter(line: &[u8]) -> u8 {
-    if 0 < line.len() { line[0] } else { 0 }
+/// A command: its letter, 0 of an empty line, and its numbers.
+pub struct Line {
+    pub what: u8,
+    pub a: usize,
+    pub b: usize,
+    pub c: usize,
+    pub d: usize,
+    pub e: usize,
+    pub f: usize,
+    pub g: usize,
+}
+
+// The field that a line is at, and the number so far of the one that is sought.
+struct Scan {
+    at: usize,
+    v: usize,
+}
+
+// One byte further. A number has at most ten digits: more push the first ones out.
+fn scanned(p: Scan, b: u8, k: usize) -> Scan {
+    let at = p.at % 8;
+    if b == b' ' {
+        return Scan { at: at + 1, v: p.v };
+    }
+    if at != k {
+        return p;
+    }
+    if b < b'0' {
+        return p;
+    }
+    Scan {
+        at,
+        v: p.v % 1_000_000_000 * 10 + wide(b - b'0') % 10,
+    }
+}
+
+// Number k, counted from 1 behind the command's letter, and 0 where there is none.
+fn field(s: &[u8], k: usize) -> usize {
+    let mut p = Scan { at: 0, v: 0 };
+    let mut i: usize = 0;
+    while i < s.len() {
+        p = scanned(p, s[i], k);
+        i += 1;
+    }
+    p.v
+}
+
+// The first byte of a line, 0 of an empty one.
+fn letter(s: &[u8]) -> u8 {
+    if 0 < s.len() { s[0] } else { 0 }
+}
+
+/// The command of a line.
+pub fn command(s: &[u8]) -> Line {
+    Line {
+        what: letter(s),
+        a: field(s, 1),
+        b: field(s, 2),
+        c: field(s, 3),
+        d: field(s, 4),
+        e: field(s, 5),
+        f: field(s, 6),
+        g: field(s, 7),
+    }
+}
+
+/// A body: the bytes O, P, Q and so on.
+pub fn pattern() -> [u8; 256] {
+    let mut body = [0u8; 256];
+    let mut i: usize = 0;
+    while i < 256 {
+        body[i] = byte(79 + i);
+        i += 1;
+    }
+    body
 }
 
 /// Prints bytes as they are.
@@ -83,62 +121,56 @@ pub fn say(s: &[u8]) {
     io::write_all(1, s);
 }
 
-// Prints the first n bytes of s, as far as s has them.
-fn say_part(s: &[u8], n: usize) {
-    let e = within(s, n);
-    say(&s[..e]);
+// Prints a number.
+fn number(v: usize) {
+    io::print_decimal(1, v as u64);
 }
 
-// Prints a byte, or in place of a % value k, and tells how many values were printed.
-fn say_byte(b: u8, values: &[usize], k: usize) -> usize {
-    if b != b'%' {
-        say(&[b]);
+// Prints a byte, or in place of a % the next value, and tells how many values were printed.
+fn say_byte(t: u8, k: usize, a: usize, b: usize, c: usize) -> usize {
+    if t != b'%' {
+        say(&[t]);
         return k;
     }
-    if k < values.len() {
-        io::print_decimal(1, values[k] as u64);
-        return k + 1;
+    if k == 0 {
+        number(a);
+        return 1;
     }
-    k
+    if k == 1 {
+        number(b);
+        return 2;
+    }
+    number(c);
+    2
 }
 
 /// Prints a text, with a value in place of each %.
-pub fn print(text: &[u8], values: &[usize]) {
+pub fn print(text: &[u8], a: usize, b: usize, c: usize) {
     let mut k: usize = 0;
     let mut i: usize = 0;
     while i < text.len() {
-        k = say_byte(text[i], values, k);
+        k = say_byte(text[i], k, a, b, c);
         i += 1;
     }
 }
 
-// A digit of base 16.
-fn digit(d: u8) -> u8 {
-    if d % 16 < 10 {
-        d % 16 + 48
-    } else {
-        d % 16 + 87
+// Prints a byte in base 16 where it is shown, behind a space where a group begins.
+fn hex_byte(v: usize, begins: bool, shown: bool) {
+    if begins {
+        say(b" ");
+    }
+    if shown {
+        io::print_hex(1, v as u64, 2);
     }
 }
 
-/// Prints the bytes of s in base 16, 1,024 of them at most.
-pub fn hex(s: &[u8]) {
-    let mut text = [0u8; 2048];
-    let n = least(s.len(), 1024);
-    let mut i: usize = 0;
+/// Prints the bytes from `start` to n in groups, each behind a space, as far as there are z of them.
+pub fn hex(s: &Cells, a: usize, start: usize, n: usize, group: usize, z: usize)
+    requires { ⌜ 0 < group ⌝ }
+{
+    let mut i = start;
     while i < n {
-        let b = s[i];
-        text[2 * i] = digit(b / 16);
-        text[2 * i + 1] = digit(b % 16);
+        hex_byte(state::at(s, a, i) % 256, (i - start) % group == 0, i < z);
         i += 1;
-    }
-    say_part(&text, 2 * n);
-}
-
-/// Prints bytes a to z of s in base 16, as far as s has them.
-pub fn hex_part(s: &[u8], a: usize, z: usize) {
-    let e = least(z, s.len());
-    if a < e {
-        hex(&s[a..e]);
     }
 }

@@ -1,16 +1,15 @@
 -- Each index of the loop is within its bounds, and the loop ends. Assumes nothing.
 use Prim.Native.Nat.{_-_, _≤_}
-use mathlib.Core.Path.{_≡_}
 use borrow.Author.Needs.{needs}
 use lib.ListN.{length}
 use Rattle.vectors.proofs.script.Statement.{statement}
 use Rattle.vectors.proofs.script.Tie as tie
 
 abbrev Inv-loop : tie.InvT-loop
-Inv-loop input records₀ queues₀ log₀ current₀ vars₀ start₀ i₀ records queues log current vars start i = (start ≤ i) × (i ≤ length input) × (length records ≡ length records₀) × (length queues ≡ length queues₀) × (length log ≡ length log₀) × (length current ≡ length current₀) × (length vars ≡ length vars₀)
+Inv-loop s₀ input start₀ i₀ s start i = (start ≤ i) × (i ≤ length input)
 
 abbrev μ-loop : tie.MeasureT-loop
-μ-loop input records₀ queues₀ log₀ current₀ vars₀ start₀ i₀ records queues log current vars start i = length input - i
+μ-loop s₀ input start₀ i₀ s start i = length input - i
 
 loop-holds : tie.Need-loop-holds Inv-loop μ-loop
 loop-holds c = search needs
@@ -21,14 +20,29 @@ add-i c = search needs
 shared-slice-read-if1 : tie.Need-shared-slice-read-if1 Inv-loop μ-loop
 shared-slice-read-if1 c = search needs
 
-sub-run : tie.Need-sub-run Inv-loop μ-loop
-sub-run c = search needs
+sub-say : tie.Need-sub-say Inv-loop μ-loop
+sub-say c = search needs
 
-part-run-start : tie.Need-part-run-start Inv-loop μ-loop
-part-run-start c = search needs
+part-say-start : tie.Need-part-say-start Inv-loop μ-loop
+part-say-start c = search needs
 
-part-run-end : tie.Need-part-run-end Inv-loop μ-loop
-part-run-end c = search needs
+part-say-end : tie.Need-part-say-end Inv-loop μ-loop
+part-say-end c = search needs
+
+say-requires : tie.Need-say-requires Inv-loop μ-loop
+say-requires c κs = search needs
+
+sub-command : tie.Need-sub-command Inv-loop μ-loop
+sub-command c = search needs
+
+part-command-start : tie.Need-part-command-start Inv-loop μ-loop
+part-command-start c = search needs
+
+part-command-end : tie.Need-part-command-end Inv-loop μ-loop
+part-command-end c = search needs
+
+command-requires : tie.Need-command-requires Inv-loop μ-loop
+command-requires c κs = search needs
 
 run-requires : tie.Need-run-requires Inv-loop μ-loop
 run-requires c κs = search needs
@@ -45,21 +59,6 @@ loop-less-2 c = search needs
 loop-again-2 : tie.Need-loop-again-2 Inv-loop μ-loop
 loop-again-2 c = search needs
 
-same-length : tie.Need-same-length Inv-loop μ-loop
-same-length c = search needs
-
-same-length-2 : tie.Need-same-length-2 Inv-loop μ-loop
-same-length-2 c = search needs
-
-same-length-3 : tie.Need-same-length-3 Inv-loop μ-loop
-same-length-3 c = search needs
-
-same-length-4 : tie.Need-same-length-4 Inv-loop μ-loop
-same-length-4 c = search needs
-
-same-length-5 : tie.Need-same-length-5 Inv-loop μ-loop
-same-length-5 c = search needs
-
 returns : tie.Need-returns Inv-loop μ-loop
 returns c = search needs
 
@@ -72,17 +71,17 @@ script-spec =
     loop-holds
     add-i
     shared-slice-read-if1
-    sub-run
-    part-run-start
-    part-run-end
+    sub-say
+    part-say-start
+    part-say-end
+    say-requires
+    sub-command
+    part-command-start
+    part-command-end
+    command-requires
     run-requires
     loop-less
     loop-again
     loop-less-2
     loop-again-2
-    same-length
-    same-length-2
-    same-length-3
-    same-length-4
-    same-length-5
     returns)

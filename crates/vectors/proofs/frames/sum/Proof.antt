@@ -5,19 +5,16 @@ use Rattle.vectors.proofs.frames.sum.Statement.{statement}
 use Rattle.vectors.proofs.frames.sum.Tie as tie
 
 abbrev Inv-loop : tie.InvT-loop
-Inv-loop s z total₀ i₀ total i = (i ≤ z) × (total < 65536)
+Inv-loop s n total₀ i₀ total i = (i ≤ n) × (total < 65536)
 
 abbrev μ-loop : tie.MeasureT-loop
-μ-loop s z total₀ i₀ total i = z - i
+μ-loop s n total₀ i₀ total i = n - i
 
 loop-holds : tie.Need-loop-holds Inv-loop μ-loop
 loop-holds c = search needs
 
-byte-at-requires : tie.Need-byte-at-requires Inv-loop μ-loop
-byte-at-requires c κs = search needs
-
-wide-requires : tie.Need-wide-requires Inv-loop μ-loop
-wide-requires c κs = search needs
+at-requires : tie.Need-at-requires Inv-loop μ-loop
+at-requires c κs = search needs
 
 add-total : tie.Need-add-total Inv-loop μ-loop
 add-total c = search needs
@@ -37,14 +34,4 @@ returns c = search needs
 pub sum-spec : {M : Type 1} → statement M
 sum-spec =
     tie.close
-    (tie.spec
-    Inv-loop
-    μ-loop
-    loop-holds
-    byte-at-requires
-    wide-requires
-    add-total
-    add-i
-    loop-less
-    loop-again
-    returns)
+    (tie.spec Inv-loop μ-loop loop-holds at-requires add-total add-i loop-less loop-again returns)

@@ -5,31 +5,22 @@ use Rattle.vectors.proofs.show.show_queue.Statement.{statement}
 use Rattle.vectors.proofs.show.show_queue.Tie as tie
 
 abbrev Inv-loop : tie.InvT-loop
-Inv-loop queues k a p₀ p = p ≤ 16
+Inv-loop s k a p₀ p = p ≤ 16
 
 abbrev μ-loop : tie.MeasureT-loop
-μ-loop queues k a p₀ p = 16 - p
+μ-loop s k a p₀ p = 16 - p
 
-queue-start-requires : tie.Need-queue-start-requires Inv-loop μ-loop
-queue-start-requires c κs = search needs
+queue-requires : tie.Need-queue-requires Inv-loop μ-loop
+queue-requires c κs = search needs
 
 loop-holds : tie.Need-loop-holds Inv-loop μ-loop
 loop-holds c = search needs
 
-slice-aggregate-fetch : tie.Need-slice-aggregate-fetch Inv-loop μ-loop
-slice-aggregate-fetch c = search needs
+mul-show-slot : tie.Need-mul-show-slot Inv-loop μ-loop
+mul-show-slot c = search needs
 
-mul-fetch : tie.Need-mul-fetch Inv-loop μ-loop
-mul-fetch c = search needs
-
-add-fetch : tie.Need-add-fetch Inv-loop μ-loop
-add-fetch c = search needs
-
-fetch-requires : tie.Need-fetch-requires Inv-loop μ-loop
-fetch-requires c κs = search needs
-
-slice-aggregate-show-slot : tie.Need-slice-aggregate-show-slot Inv-loop μ-loop
-slice-aggregate-show-slot c = search needs
+add-show-slot : tie.Need-add-show-slot Inv-loop μ-loop
+add-show-slot c = search needs
 
 show-slot-requires : tie.Need-show-slot-requires Inv-loop μ-loop
 show-slot-requires c κs = search needs
@@ -52,13 +43,10 @@ show-queue-spec =
     (tie.spec
     Inv-loop
     μ-loop
-    queue-start-requires
+    queue-requires
     loop-holds
-    slice-aggregate-fetch
-    mul-fetch
-    add-fetch
-    fetch-requires
-    slice-aggregate-show-slot
+    mul-show-slot
+    add-show-slot
     show-slot-requires
     add-p
     loop-less

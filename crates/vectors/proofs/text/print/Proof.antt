@@ -6,10 +6,10 @@ use Rattle.vectors.proofs.text.print.Statement.{statement}
 use Rattle.vectors.proofs.text.print.Tie as tie
 
 abbrev Inv-loop : tie.InvT-loop
-Inv-loop text values k₀ i₀ k i = i ≤ length text
+Inv-loop text a b c k₀ i₀ k i = i ≤ length text
 
 abbrev μ-loop : tie.MeasureT-loop
-μ-loop text values k₀ i₀ k i = length text - i
+μ-loop text a b c k₀ i₀ k i = length text - i
 
 loop-holds : tie.Need-loop-holds Inv-loop μ-loop
 loop-holds c = search needs

@@ -3,26 +3,26 @@ use Prim.Native.Nat.{_-_, _≤_}
 use mathlib.Core.Path.{_≡_}
 use borrow.Author.Needs.{needs}
 use lib.ListN.{length}
-use Rattle.vectors.proofs.state.fetch.Statement.{statement}
-use Rattle.vectors.proofs.state.fetch.Tie as tie
+use Rattle.vectors.proofs.state.load_counts.Statement.{statement}
+use Rattle.vectors.proofs.state.load_counts.Tie as tie
 
 abbrev Inv-loop : tie.InvT-loop
-Inv-loop t₀ s at a i₀ t i = (i ≤ length t₀) × (length t ≡ length t₀)
+Inv-loop s a t₀ i₀ t i = (i ≤ length t₀) × (length t ≡ length t₀)
 
 abbrev μ-loop : tie.MeasureT-loop
-μ-loop t₀ s at a i₀ t i = length t₀ - i
-
-least-requires : tie.Need-least-requires Inv-loop μ-loop
-least-requires c κs = search needs
+μ-loop s a t₀ i₀ t i = length t₀ - i
 
 loop-holds : tie.Need-loop-holds Inv-loop μ-loop
 loop-holds c = search needs
 
-add-byte-at : tie.Need-add-byte-at Inv-loop μ-loop
-add-byte-at c = search needs
+at-requires : tie.Need-at-requires Inv-loop μ-loop
+at-requires c κs = search needs
 
-byte-at-requires : tie.Need-byte-at-requires Inv-loop μ-loop
-byte-at-requires c κs = search needs
+count-requires : tie.Need-count-requires Inv-loop μ-loop
+count-requires c κs = search needs
+
+mul-t : tie.Need-mul-t Inv-loop μ-loop
+mul-t c = search needs
 
 slice-write-t : tie.Need-slice-write-t Inv-loop μ-loop
 slice-write-t c = search needs
@@ -42,16 +42,16 @@ same-length c = search needs
 returns : tie.Need-returns Inv-loop μ-loop
 returns c = search needs
 
-pub fetch-spec : {M : Type 1} → statement M
-fetch-spec =
+pub load-counts-spec : {M : Type 1} → statement M
+load-counts-spec =
     tie.close
     (tie.spec
     Inv-loop
     μ-loop
-    least-requires
     loop-holds
-    add-byte-at
-    byte-at-requires
+    at-requires
+    count-requires
+    mul-t
     slice-write-t
     add-i
     loop-less

@@ -3,23 +3,26 @@ use Prim.Native.Nat.{_-_, _≤_}
 use mathlib.Core.Path.{_≡_}
 use borrow.Author.Needs.{needs}
 use lib.ListN.{length}
-use Rattle.vectors.proofs.clear_counts.Statement.{statement}
-use Rattle.vectors.proofs.clear_counts.Tie as tie
+use Rattle.vectors.proofs.text.pattern.Statement.{statement}
+use Rattle.vectors.proofs.text.pattern.Tie as tie
 
 abbrev Inv-loop : tie.InvT-loop
-Inv-loop s₀ i₀ s i = (i ≤ length s₀) × (length s ≡ length s₀)
+Inv-loop body₀ i₀ body i = (i ≤ 256) × (length body ≡ 256)
 
 abbrev μ-loop : tie.MeasureT-loop
-μ-loop s₀ i₀ s i = length s₀ - i
+μ-loop body₀ i₀ body i = 256 - i
 
 loop-holds : tie.Need-loop-holds Inv-loop μ-loop
 loop-holds c = search needs
 
-mul-s : tie.Need-mul-s Inv-loop μ-loop
-mul-s c = search needs
+add-byte : tie.Need-add-byte Inv-loop μ-loop
+add-byte c = search needs
 
-slice-write-s : tie.Need-slice-write-s Inv-loop μ-loop
-slice-write-s c = search needs
+byte-requires : tie.Need-byte-requires Inv-loop μ-loop
+byte-requires c κs = search needs
+
+array-write-body : tie.Need-array-write-body Inv-loop μ-loop
+array-write-body c = search needs
 
 add-i : tie.Need-add-i Inv-loop μ-loop
 add-i c = search needs
@@ -30,23 +33,20 @@ loop-less c = search needs
 loop-again : tie.Need-loop-again Inv-loop μ-loop
 loop-again c = search needs
 
-same-length : tie.Need-same-length Inv-loop μ-loop
-same-length c = search needs
-
 returns : tie.Need-returns Inv-loop μ-loop
 returns c = search needs
 
-pub clear-counts-spec : {M : Type 1} → statement M
-clear-counts-spec =
+pub pattern-spec : {M : Type 1} → statement M
+pattern-spec =
     tie.close
     (tie.spec
     Inv-loop
     μ-loop
     loop-holds
-    mul-s
-    slice-write-s
+    add-byte
+    byte-requires
+    array-write-body
     add-i
     loop-less
     loop-again
-    same-length
     returns)

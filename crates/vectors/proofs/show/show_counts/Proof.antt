@@ -1,22 +1,23 @@
 -- Each index of the loop is within its bounds, and the loop ends. Assumes nothing.
 use Prim.Native.Nat.{_-_, _≤_}
-use mathlib.Core.Path.{_≡_}
 use borrow.Author.Needs.{needs}
-use lib.ListN.{length}
-use Rattle.vectors.proofs.frames.clear.Statement.{statement}
-use Rattle.vectors.proofs.frames.clear.Tie as tie
+use Rattle.vectors.proofs.show.show_counts.Statement.{statement}
+use Rattle.vectors.proofs.show.show_counts.Tie as tie
 
 abbrev Inv-loop : tie.InvT-loop
-Inv-loop s₀ i₀ s i = (i ≤ length s₀) × (length s ≡ length s₀)
+Inv-loop s a n matrix i₀ i = i ≤ n
 
 abbrev μ-loop : tie.MeasureT-loop
-μ-loop s₀ i₀ s i = length s₀ - i
+μ-loop s a n matrix i₀ i = n - i
 
 loop-holds : tie.Need-loop-holds Inv-loop μ-loop
 loop-holds c = search needs
 
-slice-write-s : tie.Need-slice-write-s Inv-loop μ-loop
-slice-write-s c = search needs
+at-requires : tie.Need-at-requires Inv-loop μ-loop
+at-requires c κs = search needs
+
+show-count-requires : tie.Need-show-count-requires Inv-loop μ-loop
+show-count-requires c κs = search needs
 
 add-i : tie.Need-add-i Inv-loop μ-loop
 add-i c = search needs
@@ -27,22 +28,19 @@ loop-less c = search needs
 loop-again : tie.Need-loop-again Inv-loop μ-loop
 loop-again c = search needs
 
-same-length : tie.Need-same-length Inv-loop μ-loop
-same-length c = search needs
-
 returns : tie.Need-returns Inv-loop μ-loop
 returns c = search needs
 
-pub clear-spec : {M : Type 1} → statement M
-clear-spec =
+pub show-counts-spec : {M : Type 1} → statement M
+show-counts-spec =
     tie.close
     (tie.spec
     Inv-loop
     μ-loop
     loop-holds
-    slice-write-s
+    at-requires
+    show-count-requires
     add-i
     loop-less
     loop-again
-    same-length
     returns)

@@ -1,28 +1,23 @@
 -- Each index of the loop is within its bounds, and the loop ends. Assumes nothing.
 use Prim.Native.Nat.{_-_, _≤_}
-use mathlib.Core.Path.{_≡_}
 use borrow.Author.Needs.{needs}
-use lib.ListN.{length}
-use Rattle.vectors.proofs.calls.pattern.Statement.{statement}
-use Rattle.vectors.proofs.calls.pattern.Tie as tie
+use Rattle.vectors.proofs.state.copy.Statement.{statement}
+use Rattle.vectors.proofs.state.copy.Tie as tie
 
 abbrev Inv-loop : tie.InvT-loop
-Inv-loop body₀ i₀ body i = (i ≤ 128) × (length body ≡ 128)
+Inv-loop s₀ to size from n i₀ s i = i ≤ size
 
 abbrev μ-loop : tie.MeasureT-loop
-μ-loop body₀ i₀ body i = 128 - i
+μ-loop s₀ to size from n i₀ s i = size - i
 
 loop-holds : tie.Need-loop-holds Inv-loop μ-loop
 loop-holds c = search needs
 
-add-body : tie.Need-add-body Inv-loop μ-loop
-add-body c = search needs
+part-requires : tie.Need-part-requires Inv-loop μ-loop
+part-requires c κs = search needs
 
-cast-body : tie.Need-cast-body Inv-loop μ-loop
-cast-body c = search needs
-
-array-write-body : tie.Need-array-write-body Inv-loop μ-loop
-array-write-body c = search needs
+put-requires : tie.Need-put-requires Inv-loop μ-loop
+put-requires c κs = search needs
 
 add-i : tie.Need-add-i Inv-loop μ-loop
 add-i c = search needs
@@ -36,16 +31,15 @@ loop-again c = search needs
 returns : tie.Need-returns Inv-loop μ-loop
 returns c = search needs
 
-pub pattern-spec : {M : Type 1} → statement M
-pattern-spec =
+pub copy-spec : {M : Type 1} → statement M
+copy-spec =
     tie.close
     (tie.spec
     Inv-loop
     μ-loop
     loop-holds
-    add-body
-    cast-body
-    array-write-body
+    part-requires
+    put-requires
     add-i
     loop-less
     loop-again

@@ -2,14 +2,14 @@
 use Prim.Native.Nat.{_-_, _≤_}
 use borrow.Author.Needs.{needs}
 use lib.ListN.{length}
-use Rattle.vectors.proofs.text.fields.Statement.{statement}
-use Rattle.vectors.proofs.text.fields.Tie as tie
+use Rattle.vectors.proofs.text.field.Statement.{statement}
+use Rattle.vectors.proofs.text.field.Tie as tie
 
 abbrev Inv-loop : tie.InvT-loop
-Inv-loop line f₀ i₀ f i = i ≤ length line
+Inv-loop s k p₀ i₀ p i = i ≤ length s
 
 abbrev μ-loop : tie.MeasureT-loop
-μ-loop line f₀ i₀ f i = length line - i
+μ-loop s k p₀ i₀ p i = length s - i
 
 loop-holds : tie.Need-loop-holds Inv-loop μ-loop
 loop-holds c = search needs
@@ -32,8 +32,8 @@ loop-again c = search needs
 returns : tie.Need-returns Inv-loop μ-loop
 returns c = search needs
 
-pub fields-spec : {M : Type 1} → statement M
-fields-spec =
+pub field-spec : {M : Type 1} → statement M
+field-spec =
     tie.close
     (tie.spec
     Inv-loop

@@ -3,29 +3,26 @@ use Prim.Native.Nat.{_-_, _≤_}
 use mathlib.Core.Path.{_≡_}
 use borrow.Author.Needs.{needs}
 use lib.ListN.{length}
-use Rattle.vectors.proofs.state.paste.Statement.{statement}
-use Rattle.vectors.proofs.state.paste.Tie as tie
+use Rattle.vectors.proofs.state.load_bytes.Statement.{statement}
+use Rattle.vectors.proofs.state.load_bytes.Tie as tie
 
 abbrev Inv-loop : tie.InvT-loop
-Inv-loop t₀ at s a i₀ t i = (i ≤ length s) × (length t ≡ length t₀)
+Inv-loop s a t₀ i₀ t i = (i ≤ length t₀) × (length t ≡ length t₀)
 
 abbrev μ-loop : tie.MeasureT-loop
-μ-loop t₀ at s a i₀ t i = length s - i
-
-least-requires : tie.Need-least-requires Inv-loop μ-loop
-least-requires c κs = search needs
+μ-loop s a t₀ i₀ t i = length t₀ - i
 
 loop-holds : tie.Need-loop-holds Inv-loop μ-loop
 loop-holds c = search needs
 
-add-put-byte : tie.Need-add-put-byte Inv-loop μ-loop
-add-put-byte c = search needs
+at-requires : tie.Need-at-requires Inv-loop μ-loop
+at-requires c κs = search needs
 
-shared-slice-read-put-byte : tie.Need-shared-slice-read-put-byte Inv-loop μ-loop
-shared-slice-read-put-byte c = search needs
+byte-requires : tie.Need-byte-requires Inv-loop μ-loop
+byte-requires c κs = search needs
 
-put-byte-requires : tie.Need-put-byte-requires Inv-loop μ-loop
-put-byte-requires c κs = search needs
+slice-write-t : tie.Need-slice-write-t Inv-loop μ-loop
+slice-write-t c = search needs
 
 add-i : tie.Need-add-i Inv-loop μ-loop
 add-i c = search needs
@@ -42,17 +39,16 @@ same-length c = search needs
 returns : tie.Need-returns Inv-loop μ-loop
 returns c = search needs
 
-pub paste-spec : {M : Type 1} → statement M
-paste-spec =
+pub load-bytes-spec : {M : Type 1} → statement M
+load-bytes-spec =
     tie.close
     (tie.spec
     Inv-loop
     μ-loop
-    least-requires
     loop-holds
-    add-put-byte
-    shared-slice-read-put-byte
-    put-byte-requires
+    at-requires
+    byte-requires
+    slice-write-t
     add-i
     loop-less
     loop-again
