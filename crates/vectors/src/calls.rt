@@ -12,21 +12,6 @@ use node::SendAnswer;
 use node::SetUpAnswer;
 ghost use Prim.Native.Nat.{_≤_};
 
-enum Answer {
-    Send(SendAnswer),
-    Offer(OfferAnswer),
-    Deliver(DeliverAnswer),
-}
-
-/// What a call answers, the record, and what it was lent, as it is then.
-struct Made {
-    answer: Answer,
-    node: Node,
-    queue: [u8; 12840],
-    out: [u8; 4096],
-    body: [u8; 128],
-}
-
 /// Set-up into record a.
 pub fn set_up(s: &mut Cells, l: Line) {
     let r = Node::set_up(l.b, l.c, l.d);
@@ -45,45 +30,62 @@ fn queue(s: &Cells, k: usize) -> [u8; 12840] {
     bytes
 }
 
-// Send from record a to node b, with a body of c bytes and an output of d.
-fn send(s: &Cells, l: Line) -> Made {
+// Keeps what a call left: the outputs, and whether record or queue k changed.
+fn keep(
+    s: &mut Cells,
+    k: usize,
+    node: Node,
+    queue: &[u8; 12840],
+    out: &[u8; 4096],
+    body: &[u8; 128],
+) {
+    state::store_bytes(s, state::OUT, out);
+    state::store_bytes(s, state::BODY, body);
+    state::put(s, state::CHANGED, 0, 0);
+    state::store_bytes(s, state::queue(k), queue);
+    state::store(s, k, node);
+}
+
+/// Send from record a to node b, with a body of c bytes and an output of d.
+pub fn send(s: &mut Cells, l: Line) {
+    let held = queue(s, l.a);
     let pattern = text::pattern();
     let b = text::within(&pattern, l.c);
     let mut out = [165u8; 4096];
     let o = text::within(&out, l.d);
+    let body = [165u8; 128];
     let r = state::load(s, l.a).send(l.b, &pattern[..b], &mut out[..o]);
+    keep(s, l.a, r.node, &held, &out, &body);
     let answer = r.answer;
-    let node = r.node;
-    Made {
-        answer: Answer::Send(answer),
-        node,
-        queue: queue(s, l.a),
-        out,
-        body: [165; 128],
+    match answer {
+        SendAnswer::Refused(why) => refused(s, why),
+        SendAnswer::Sent { bytes, extras } => {
+            sent(s, bytes, extras);
+            log_frames(s, bytes);
+        }
     }
 }
 
-// Offer of the frame at hand at record a, with a queue of length b.
-fn offer(s: &Cells, l: Line) -> Made {
+/// Offer of the frame at hand at record a, with a queue of length b.
+pub fn offer(s: &mut Cells, l: Line) {
+    let mut held = queue(s, l.a);
+    let q = text::within(&held, l.b);
     let mut frame = [0u8; 1100];
     state::load_bytes(s, state::FRAME, &mut frame);
     let z = text::within(&frame, state::at(s, state::LENGTH, 0));
-    let mut held = queue(s, l.a);
-    let q = text::within(&held, l.b);
+    let out = [165u8; 4096];
+    let body = [165u8; 128];
     let r = state::load(s, l.a).offer(&frame[..z], &mut held[..q]);
+    keep(s, l.a, r.node, &held, &out, &body);
     let answer = r.answer;
-    let node = r.node;
-    Made {
-        answer: Answer::Offer(answer),
-        node,
-        queue: held,
-        out: [165; 4096],
-        body: [165; 128],
+    match answer {
+        OfferAnswer::Refused(why) => refused(s, why),
+        OfferAnswer::Held { count, ready } => waits(count, ready),
     }
 }
 
-// Deliver at record a, with a queue of length b, an output of c and a body output of d.
-fn deliver(s: &Cells, l: Line) -> Made {
+/// Deliver at record a, with a queue of length b, an output of c and a body output of d.
+pub fn deliver(s: &mut Cells, l: Line) {
     let mut held = queue(s, l.a);
     let q = text::within(&held, l.b);
     let mut out = [165u8; 4096];
@@ -91,46 +93,15 @@ fn deliver(s: &Cells, l: Line) -> Made {
     let mut body = [165u8; 128];
     let b = text::within(&body, l.d);
     let r = state::load(s, l.a).deliver(&mut held[..q], &mut out[..o], &mut body[..b]);
+    keep(s, l.a, r.node, &held, &out, &body);
     let answer = r.answer;
-    let node = r.node;
-    Made {
-        answer: Answer::Deliver(answer),
-        node,
-        queue: held,
-        out,
-        body,
-    }
-}
-
-// Makes the call.
-fn perform(s: &Cells, l: Line) -> Made {
-    let what = l.what;
-    match what {
-        b'S' => send(s, l),
-        b'O' => offer(s, l),
-        _ => deliver(s, l),
-    }
-}
-
-/// Send, offer or deliver: makes the call, keeps what it left, prints its answer and logs its frames.
-pub fn call(s: &mut Cells, l: Line) {
-    let m = perform(s, l);
-    state::store_bytes(s, state::OUT, &m.out);
-    state::store_bytes(s, state::BODY, &m.body);
-    state::put(s, state::CHANGED, 0, 0);
-    state::store_bytes(s, state::queue(l.a), &m.queue);
-    state::store(s, l.a, m.node);
-    let answer = m.answer;
-    let bytes = print_answer(s, answer);
-    log_frames(s, bytes);
-}
-
-// Prints an answer, and tells how many bytes of frames were issued.
-fn print_answer(s: &Cells, answer: Answer) -> usize {
     match answer {
-        Answer::Send(a) => print_send(s, a),
-        Answer::Offer(a) => print_offer(s, a),
-        Answer::Deliver(a) => print_deliver(s, a),
+        DeliverAnswer::Refused(why) => refused(s, why),
+        DeliverAnswer::Nothing(tried) => nothing(s, tried),
+        DeliverAnswer::Frame(d) => {
+            delivered(s, d);
+            log_frames(s, d.bytes);
+        }
     }
 }
 
@@ -140,14 +111,13 @@ fn kept(s: &Cells) -> bool {
 }
 
 // Prints a refusal.
-fn refused(s: &Cells, why: u8) -> usize {
+fn refused(s: &Cells, why: u8) {
     text::print(b"  refused %", text::wide(why), 0, 0);
     if kept(s) {
         text::say(b", all kept\n");
     } else {
         text::say(b", CHANGED\n");
     }
-    0
 }
 
 // Ends a line, and tells where a call wrote more than its answer counts.
@@ -159,52 +129,30 @@ fn end(within: bool) {
     }
 }
 
-// Prints what send answered.
-fn print_send(s: &Cells, answer: SendAnswer) -> usize {
-    match answer {
-        SendAnswer::Refused(why) => refused(s, why),
-        SendAnswer::Sent { bytes, extras } => {
-            text::print(b"  sent: bytes %, extras %", bytes, extras, 0);
-            end(state::filled(s, state::OUT, bytes, 4096, 165));
-            bytes
-        }
-    }
-}
-
-// Prints what offer answered.
-fn print_offer(s: &Cells, answer: OfferAnswer) -> usize {
-    match answer {
-        OfferAnswer::Refused(why) => refused(s, why),
-        OfferAnswer::Held { count, ready } => held(count, ready),
-    }
+// Prints what was sent.
+fn sent(s: &Cells, bytes: usize, extras: usize) {
+    text::print(b"  sent: bytes %, extras %", bytes, extras, 0);
+    end(state::filled(s, state::OUT, bytes, 4096, 165));
 }
 
 // Prints that a frame is held.
-fn held(count: usize, ready: bool) -> usize {
+fn waits(count: usize, ready: bool) {
     text::print(b"  held: %", count, 0, 0);
     if ready {
         text::say(b", deliverable\n");
     } else {
         text::say(b", waits\n");
     }
-    0
 }
 
-// Prints what deliver answered.
-fn print_deliver(s: &Cells, answer: DeliverAnswer) -> usize {
-    match answer {
-        DeliverAnswer::Refused(why) => refused(s, why),
-        DeliverAnswer::Nothing(tried) => {
-            text::print(b"  none: tried %", tried, 0, 0);
-            end(kept(s));
-            0
-        }
-        DeliverAnswer::Frame(d) => delivered(s, d),
-    }
+// Prints that no held frame is deliverable.
+fn nothing(s: &Cells, tried: usize) {
+    text::print(b"  none: tried %", tried, 0, 0);
+    end(kept(s));
 }
 
 // Prints a delivery and its body.
-fn delivered(s: &Cells, d: Delivered) -> usize {
+fn delivered(s: &Cells, d: Delivered) {
     if d.kind == 1 {
         text::say(b"  delivered: user");
     } else {
@@ -226,7 +174,6 @@ fn delivered(s: &Cells, d: Delivered) -> usize {
         text::hex(s, state::BODY, 0, d.body, 128, 128);
         text::say(b"\n");
     }
-    d.bytes
 }
 
 // Puts the issued frame at a into the log, prints it with its number there, and tells its length.

@@ -38,26 +38,14 @@ pub fn entry(s: &mut Cells, l: Line) {
     state::store_bytes(s, state::FRAME + 8 + 6 * text::least(l.a, 255), &bytes);
 }
 
-// The sum of the first n bytes, modulo 65,536.
-fn sum(s: &Cells, n: usize) -> usize {
-    let mut total: usize = 0;
-    let mut i: usize = 0;
-    while i < n {
-        total = (total + state::at(s, state::FRAME, i) % 256) % 65536;
-        i += 1;
-    }
-    total
-}
-
-// Writes the trailer behind n bytes: their count and the sum.
+// Writes the trailer behind n bytes.
 fn trailer(s: &mut Cells, n: usize)
-    requires { ⌜ n ≤ 1100 ⌝ }
+    requires { ⌜ n ≤ 1096 ⌝ }
 {
-    let count = [text::byte(n), text::byte(n / 256)];
-    state::store_bytes(s, state::FRAME + n, &count);
-    let total = sum(s, n + 2);
-    let bytes = [text::byte(total), text::byte(total / 256)];
-    state::store_bytes(s, state::FRAME + n + 2, &bytes);
+    let mut frame = [0u8; 1100];
+    state::load_bytes(s, state::FRAME, &mut frame);
+    wire::write_trailer(&mut frame, 0, n);
+    state::store_bytes(s, state::FRAME, &frame);
 }
 
 /// Closes the frame by its trailer, and prints it.

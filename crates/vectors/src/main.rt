@@ -65,7 +65,9 @@ fn run(s: &mut Cells, l: Line) {
     match what {
         b'Z' => state::copy(s, 0, state::ALL, 0, 0),
         b'U' => calls::set_up(s, l),
-        b'S' | b'O' | b'D' => calls::call(s, l),
+        b'S' => calls::send(s, l),
+        b'O' => calls::offer(s, l),
+        b'D' => calls::deliver(s, l),
         b'R' => show::show_record(s, l.a),
         b'K' => show::show_queue(s, l.a),
         b'I' => small(s, l),

@@ -90,7 +90,7 @@ pub fn load_bytes(s: &Cells, a: usize, t: &mut [u8]) {
 fn load_counts(s: &Cells, a: usize, t: &mut [u32]) {
     let mut i: usize = 0;
     while i < t.len() {
-        t[i] = text::count(at(s, a, i));
+        t[i] = (at(s, a, i) % 4294967296) as u32;
         i += 1;
     }
 }

@@ -29,11 +29,6 @@ pub fn wide32(v: u32) -> usize {
     v as usize
 }
 
-/// A number cut to 32 bits.
-pub fn count(n: usize) -> u32 {
-    (n % 4294967296) as u32
-}
-
 /// A number cut to a byte.
 pub fn byte(n: usize) -> u8 {
     (n % 256) as u8

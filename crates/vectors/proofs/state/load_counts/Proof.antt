@@ -18,8 +18,8 @@ loop-holds c = search needs
 at-requires : tie.Need-at-requires Inv-loop μ-loop
 at-requires c κs = search needs
 
-count-requires : tie.Need-count-requires Inv-loop μ-loop
-count-requires c κs = search needs
+cast-t : tie.Need-cast-t Inv-loop μ-loop
+cast-t c = search needs
 
 mul-t : tie.Need-mul-t Inv-loop μ-loop
 mul-t c = search needs
@@ -50,7 +50,7 @@ load-counts-spec =
     μ-loop
     loop-holds
     at-requires
-    count-requires
+    cast-t
     mul-t
     slice-write-t
     add-i
