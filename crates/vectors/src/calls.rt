@@ -1,15 +1,15 @@
 //! The node's four calls, made on the script's records and queues, and their answers printed. Outputs are lent full of the byte 165, so that what a call leaves as it was can be told.
-use super::show;
-use super::state;
-use super::state::Cells;
-use super::text;
-use super::text::Line;
 use node::DeliverAnswer;
 use node::Delivered;
 use node::Node;
 use node::OfferAnswer;
 use node::SendAnswer;
 use node::SetUpAnswer;
+use script::show;
+use script::state;
+use script::state::Cells;
+use script::text;
+use script::text::Line;
 ghost use Prim.Native.Nat.{_≤_};
 
 /// Set-up into record a.

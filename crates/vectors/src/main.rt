@@ -18,13 +18,13 @@
 //!
 //! A frame is printed in base 16: header, entries, body and trailer parted by spaces. A refusal is printed with `all kept` where record and lent buffers are as they were, and with `CHANGED` otherwise; an answer whose call wrote more than it counts is marked `MORE WRITTEN`.
 mod calls;
-mod frames;
-mod show;
-mod state;
-mod text;
 
-use state::Cells;
-use text::Line;
+use script::frames;
+use script::show;
+use script::state;
+use script::state::Cells;
+use script::text;
+use script::text::Line;
 
 // Writes the small numbers of record a.
 fn small(s: &mut Cells, l: Line) {
@@ -87,7 +87,7 @@ fn run(s: &mut Cells, l: Line) {
 }
 
 // Prints each line of a script and runs its command.
-fn script(s: &mut Cells, input: &[u8]) {
+fn run_lines(s: &mut Cells, input: &[u8]) {
     let mut start: usize = 0;
     let mut i: usize = 0;
     while i < input.len() {
@@ -105,5 +105,5 @@ fn main() {
     let mut input = io::large_buffer();
     let n = io::read_full(0, &mut input);
     let mut cells = [0usize; state::ALL];
-    script(&mut cells, &input[..n]);
+    run_lines(&mut cells, &input[..n]);
 }

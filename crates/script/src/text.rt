@@ -1,0 +1,171 @@
+//! Text in and out: the numbers of a line, numbers and bytes printed.
+use super::state;
+use super::state::Cells;
+ghost use Prim.Native.Nat.{_≤_, _<_};
+ghost use Rattle.io.specs.Counts.{Counts};
+
+/// The smaller of two numbers.
+pub fn least(a: usize, b: usize) -> usize
+    ensures { λ r. ⌜ r ≤ a ⌝ }
+    ensures { λ r. ⌜ r ≤ b ⌝ }
+{
+    if a < b { a } else { b }
+}
+
+/// At most n, and at most the bytes of s.
+pub fn within(s: &[u8], n: usize) -> usize
+    ensures { λ r. ⌜ Counts r (now (s .entry)) ⌝ }
+{
+    if n < s.len() { n } else { s.len() }
+}
+
+/// A byte as a number of another width.
+pub fn wide(b: u8) -> usize {
+    b as usize
+}
+
+/// A count as a number of another width.
+pub fn wide32(v: u32) -> usize {
+    v as usize
+}
+
+/// A number cut to a byte.
+pub fn byte(n: usize) -> u8 {
+    (n % 256) as u8
+}
+
+/// A command: its letter, 0 of an empty line, and its numbers.
+pub struct Line {
+    pub what: u8,
+    pub a: usize,
+    pub b: usize,
+    pub c: usize,
+    pub d: usize,
+    pub e: usize,
+    pub f: usize,
+    pub g: usize,
+}
+
+// The field that a line is at, and the number so far of the one that is sought.
+struct Scan {
+    at: usize,
+    v: usize,
+}
+
+// One byte further. A number has at most ten digits: more push the first ones out.
+fn scanned(p: Scan, b: u8, k: usize) -> Scan {
+    let at = p.at % 8;
+    if b == b' ' {
+        return Scan { at: at + 1, v: p.v };
+    }
+    if at != k {
+        return p;
+    }
+    if b < b'0' {
+        return p;
+    }
+    Scan {
+        at,
+        v: p.v % 1_000_000_000 * 10 + wide(b - b'0') % 10,
+    }
+}
+
+// Number k, counted from 1 behind the command's letter, and 0 where there is none.
+fn field(s: &[u8], k: usize) -> usize {
+    let mut p = Scan { at: 0, v: 0 };
+    let mut i: usize = 0;
+    while i < s.len() {
+        p = scanned(p, s[i], k);
+        i += 1;
+    }
+    p.v
+}
+
+// The first byte of a line, 0 of an empty one.
+fn letter(s: &[u8]) -> u8 {
+    if 0 < s.len() { s[0] } else { 0 }
+}
+
+/// The command of a line.
+pub fn command(s: &[u8]) -> Line {
+    Line {
+        what: letter(s),
+        a: field(s, 1),
+        b: field(s, 2),
+        c: field(s, 3),
+        d: field(s, 4),
+        e: field(s, 5),
+        f: field(s, 6),
+        g: field(s, 7),
+    }
+}
+
+/// A body: the bytes O, P, Q and so on.
+pub fn pattern() -> [u8; 256] {
+    let mut body = [0u8; 256];
+    let mut i: usize = 0;
+    while i < 256 {
+        body[i] = byte(79 + i);
+        i += 1;
+    }
+    body
+}
+
+/// Prints bytes as they are.
+pub fn say(s: &[u8]) {
+    io::write_all(1, s);
+}
+
+// Prints a number.
+fn number(v: usize) {
+    io::print_decimal(1, v as u64);
+}
+
+// Prints a byte, or in place of a % the next value, and tells how many values were printed.
+fn say_byte(t: u8, k: usize, a: usize, b: usize, c: usize) -> usize {
+    if t != b'%' {
+        say(&[t]);
+        return k;
+    }
+    if k == 0 {
+        number(a);
+        return 1;
+    }
+    if k == 1 {
+        number(b);
+        return 2;
+    }
+    number(c);
+    2
+}
+
+/// Prints a text, with a value in place of each %.
+pub fn print(text: &[u8], a: usize, b: usize, c: usize) {
+    let mut k: usize = 0;
+    let mut i: usize = 0;
+    while i < text.len() {
+        k = say_byte(text[i], k, a, b, c);
+        i += 1;
+    }
+}
+
+// Prints a byte in base 16 where it is shown, behind a space where a group begins.
+fn hex_byte(v: usize, begins: bool, shown: bool) {
+    if begins {
+        say(b" ");
+    }
+    if shown {
+        io::print_hex(1, v as u64, 2);
+    }
+}
+
+/// Prints the bytes from `start` to n in groups, each behind a space; of bytes from z on only the spaces.
+pub fn hex(s: &Cells, a: usize, start: usize, n: usize, group: usize, z: usize)
+    requires { ⌜ 0 < group ⌝ }
+{
+    let mut i = start;
+    while i < n {
+        hex_byte(state::at(s, a, i) % 256, (i - start) % group == 0, i < z);
+        i += 1;
+    }
+}
