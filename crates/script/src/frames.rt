@@ -1,5 +1,4 @@
 //! The frame at hand: made from its fields, changed, closed by its trailer.
-use super::show;
 use super::state;
 use super::state::Cells;
 use super::text;
@@ -48,14 +47,13 @@ fn trailer(s: &mut Cells, n: usize)
     state::store_bytes(s, state::FRAME, &frame);
 }
 
-/// Closes the frame by its trailer, and prints it.
-pub fn close(s: &mut Cells) {
+/// Closes the frame by its trailer, and gives its length.
+pub fn close(s: &mut Cells) -> usize {
     let z = text::least(state::at(s, state::LENGTH, 0), 1100);
     if 4 <= z {
         trailer(s, z - 4);
     }
-    text::say(b" ");
-    show::print_frame(s, state::FRAME, z);
+    z
 }
 
 /// Takes issue i of the log, counted from 1, as the frame at hand.

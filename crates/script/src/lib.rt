@@ -1,5 +1,4 @@
-//! What the program `vectors` works on and prints: the lines of its script, its state in one lent array, and the frame at hand.
+//! What the program `vectors` works on: the lines of its script, its state in one lent array, and the frame at hand.
 pub mod frames;
-pub mod show;
 pub mod state;
 pub mod text;

@@ -1,11 +1,12 @@
 //! The node's four calls, made on the script's records and queues, and their answers printed. Outputs are lent full of the byte 165, so that what a call leaves as it was can be told.
+use super::print;
+use super::show;
 use node::DeliverAnswer;
 use node::Delivered;
 use node::Node;
 use node::OfferAnswer;
 use node::SendAnswer;
 use node::SetUpAnswer;
-use script::show;
 use script::state;
 use script::state::Cells;
 use script::text;
@@ -18,8 +19,8 @@ pub fn set_up(s: &mut Cells, l: Line) {
     state::store(s, l.a, r.node);
     let answer = r.answer;
     match answer {
-        SetUpAnswer::Refused(why) => text::print(b"  refused %\n", text::wide(why), 0, 0),
-        SetUpAnswer::Ready => text::say(b"  ready\n"),
+        SetUpAnswer::Refused(why) => print::print(b"  refused %\n", text::wide(why), 0, 0),
+        SetUpAnswer::Ready => print::say(b"  ready\n"),
     }
 }
 
@@ -112,67 +113,67 @@ fn kept(s: &Cells) -> bool {
 
 // Prints a refusal.
 fn refused(s: &Cells, why: u8) {
-    text::print(b"  refused %", text::wide(why), 0, 0);
+    print::print(b"  refused %", text::wide(why), 0, 0);
     if kept(s) {
-        text::say(b", all kept\n");
+        print::say(b", all kept\n");
     } else {
-        text::say(b", CHANGED\n");
+        print::say(b", CHANGED\n");
     }
 }
 
 // Ends a line, and tells where a call wrote more than its answer counts.
 fn end(within: bool) {
     if within {
-        text::say(b"\n");
+        print::say(b"\n");
     } else {
-        text::say(b", MORE WRITTEN\n");
+        print::say(b", MORE WRITTEN\n");
     }
 }
 
 // Prints what was sent.
 fn sent(s: &Cells, bytes: usize, extras: usize) {
-    text::print(b"  sent: bytes %, extras %", bytes, extras, 0);
+    print::print(b"  sent: bytes %, extras %", bytes, extras, 0);
     end(state::filled(s, state::OUT, bytes, 4096, 165));
 }
 
 // Prints that a frame is held.
 fn waits(count: usize, ready: bool) {
-    text::print(b"  held: %", count, 0, 0);
+    print::print(b"  held: %", count, 0, 0);
     if ready {
-        text::say(b", deliverable\n");
+        print::say(b", deliverable\n");
     } else {
-        text::say(b", waits\n");
+        print::say(b", waits\n");
     }
 }
 
 // Prints that no held frame is deliverable.
 fn nothing(s: &Cells, tried: usize) {
-    text::print(b"  none: tried %", tried, 0, 0);
+    print::print(b"  none: tried %", tried, 0, 0);
     end(kept(s));
 }
 
 // Prints a delivery and its body.
 fn delivered(s: &Cells, d: Delivered) {
     if d.kind == 1 {
-        text::say(b"  delivered: user");
+        print::say(b"  delivered: user");
     } else {
-        text::say(b"  delivered: extra");
+        print::say(b"  delivered: extra");
     }
-    text::print(
+    print::print(
         b" from %, number %, tried %",
         text::wide(d.from),
         text::wide32(d.number),
         d.tried,
     );
-    text::print(b", body %, bytes %, extras %", d.body, d.bytes, d.extras);
+    print::print(b", body %, bytes %, extras %", d.body, d.bytes, d.extras);
     end(
         state::filled(s, state::OUT, d.bytes, 4096, 165)
             && state::filled(s, state::BODY, d.body, 128, 165),
     );
     if 0 < d.body {
-        text::say(b"  body:");
-        text::hex(s, state::BODY, 0, d.body, 128, 128);
-        text::say(b"\n");
+        print::say(b"  body:");
+        print::hex(s, state::BODY, 0, d.body, 128, 128);
+        print::say(b"\n");
     }
 }
 
@@ -183,7 +184,7 @@ fn log_frame(s: &mut Cells, a: usize) -> usize
 {
     let i = state::at(s, state::COUNT, 0) % 128;
     let z = state::frame_length(s, a);
-    text::print(b"  %:", i + 1, 0, 0);
+    print::print(b"  %:", i + 1, 0, 0);
     show::print_frame(s, a, z);
     state::copy(s, state::LOG + 802 * i, 802, a, z);
     state::put(s, state::COUNT, 0, i + 1);

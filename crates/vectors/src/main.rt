@@ -18,9 +18,10 @@
 //!
 //! A frame is printed in base 16: header, entries, body and trailer parted by spaces. A refusal is printed with `all kept` where record and lent buffers are as they were, and with `CHANGED` otherwise; an answer whose call wrote more than it counts is marked `MORE WRITTEN`.
 mod calls;
+mod print;
+mod show;
 
 use script::frames;
-use script::show;
 use script::state;
 use script::state::Cells;
 use script::text;
@@ -81,7 +82,7 @@ fn run(s: &mut Cells, l: Line) {
         b'E' => frames::entry(s, l),
         b'B' => state::put(s, state::FRAME, l.a, l.b % 256),
         b'L' => state::put(s, state::LENGTH, 0, l.a),
-        b'T' => frames::close(s),
+        b'T' => show::close_frame(s),
         _ => (),
     }
 }
@@ -94,7 +95,7 @@ fn run_lines(s: &mut Cells, input: &[u8]) {
         let at = i;
         i += 1;
         if input[at] == b'\n' {
-            text::say(&input[start..i]);
+            print::say(&input[start..i]);
             run(s, text::command(&input[start..at]));
             start = i;
         }

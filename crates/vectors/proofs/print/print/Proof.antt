@@ -1,23 +1,24 @@
 -- Each index of the loop is within its bounds, and the loop ends. Assumes nothing.
 use Prim.Native.Nat.{_-_, _≤_}
 use borrow.Author.Needs.{needs}
-use Rattle.script.proofs.show.show_counts.Statement.{statement}
-use Rattle.script.proofs.show.show_counts.Tie as tie
+use lib.ListN.{length}
+use Rattle.vectors.proofs.print.print.Statement.{statement}
+use Rattle.vectors.proofs.print.print.Tie as tie
 
 abbrev Inv-loop : tie.InvT-loop
-Inv-loop s a n matrix i₀ i = i ≤ n
+Inv-loop text a b c k₀ i₀ k i = i ≤ length text
 
 abbrev μ-loop : tie.MeasureT-loop
-μ-loop s a n matrix i₀ i = n - i
+μ-loop text a b c k₀ i₀ k i = length text - i
 
 loop-holds : tie.Need-loop-holds Inv-loop μ-loop
 loop-holds c = search needs
 
-at-requires : tie.Need-at-requires Inv-loop μ-loop
-at-requires c κs = search needs
+shared-slice-read-say-byte : tie.Need-shared-slice-read-say-byte Inv-loop μ-loop
+shared-slice-read-say-byte c = search needs
 
-show-count-requires : tie.Need-show-count-requires Inv-loop μ-loop
-show-count-requires c κs = search needs
+say-byte-requires : tie.Need-say-byte-requires Inv-loop μ-loop
+say-byte-requires c κs = search needs
 
 add-i : tie.Need-add-i Inv-loop μ-loop
 add-i c = search needs
@@ -31,15 +32,15 @@ loop-again c = search needs
 returns : tie.Need-returns Inv-loop μ-loop
 returns c = search needs
 
-pub show-counts-spec : {M : Type 1} → statement M
-show-counts-spec =
+pub print-spec : {M : Type 1} → statement M
+print-spec =
     tie.close
     (tie.spec
     Inv-loop
     μ-loop
     loop-holds
-    at-requires
-    show-count-requires
+    shared-slice-read-say-byte
+    say-byte-requires
     add-i
     loop-less
     loop-again

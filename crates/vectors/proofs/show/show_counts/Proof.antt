@@ -1,24 +1,23 @@
 -- Each index of the loop is within its bounds, and the loop ends. Assumes nothing.
 use Prim.Native.Nat.{_-_, _≤_}
 use borrow.Author.Needs.{needs}
-use lib.ListN.{length}
-use Rattle.script.proofs.text.print.Statement.{statement}
-use Rattle.script.proofs.text.print.Tie as tie
+use Rattle.vectors.proofs.show.show_counts.Statement.{statement}
+use Rattle.vectors.proofs.show.show_counts.Tie as tie
 
 abbrev Inv-loop : tie.InvT-loop
-Inv-loop text a b c k₀ i₀ k i = i ≤ length text
+Inv-loop s a n matrix i₀ i = i ≤ n
 
 abbrev μ-loop : tie.MeasureT-loop
-μ-loop text a b c k₀ i₀ k i = length text - i
+μ-loop s a n matrix i₀ i = n - i
 
 loop-holds : tie.Need-loop-holds Inv-loop μ-loop
 loop-holds c = search needs
 
-shared-slice-read-say-byte : tie.Need-shared-slice-read-say-byte Inv-loop μ-loop
-shared-slice-read-say-byte c = search needs
+at-requires : tie.Need-at-requires Inv-loop μ-loop
+at-requires c κs = search needs
 
-say-byte-requires : tie.Need-say-byte-requires Inv-loop μ-loop
-say-byte-requires c κs = search needs
+show-count-requires : tie.Need-show-count-requires Inv-loop μ-loop
+show-count-requires c κs = search needs
 
 add-i : tie.Need-add-i Inv-loop μ-loop
 add-i c = search needs
@@ -32,15 +31,15 @@ loop-again c = search needs
 returns : tie.Need-returns Inv-loop μ-loop
 returns c = search needs
 
-pub print-spec : {M : Type 1} → statement M
-print-spec =
+pub show-counts-spec : {M : Type 1} → statement M
+show-counts-spec =
     tie.close
     (tie.spec
     Inv-loop
     μ-loop
     loop-holds
-    shared-slice-read-say-byte
-    say-byte-requires
+    at-requires
+    show-count-requires
     add-i
     loop-less
     loop-again

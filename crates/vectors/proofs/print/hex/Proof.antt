@@ -1,8 +1,8 @@
 -- Each index of the loop is within its bounds, and the loop ends. Assumes nothing.
 use Prim.Native.Nat.{_-_, _≤_}
 use borrow.Author.Needs.{needs}
-use Rattle.script.proofs.text.hex.Statement.{statement}
-use Rattle.script.proofs.text.hex.Tie as tie
+use Rattle.vectors.proofs.print.hex.Statement.{statement}
+use Rattle.vectors.proofs.print.hex.Tie as tie
 
 abbrev Inv-loop : tie.InvT-loop
 Inv-loop s a start n group z i₀ i = start ≤ i

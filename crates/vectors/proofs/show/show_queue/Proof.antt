@@ -1,8 +1,8 @@
 -- Each index of the loop is within its bounds, and the loop ends. Assumes nothing.
 use Prim.Native.Nat.{_-_, _≤_}
 use borrow.Author.Needs.{needs}
-use Rattle.script.proofs.show.show_queue.Statement.{statement}
-use Rattle.script.proofs.show.show_queue.Tie as tie
+use Rattle.vectors.proofs.show.show_queue.Statement.{statement}
+use Rattle.vectors.proofs.show.show_queue.Tie as tie
 
 abbrev Inv-loop : tie.InvT-loop
 Inv-loop s k a p₀ p = p ≤ 16
