@@ -11,7 +11,9 @@ const REFUSALS: [(&str, &[u8]); 4] = [
     ("deliver", &[2, 3, 4, 5]),
 ];
 /// Calls from each seed.
-const CALLS: usize = 50_000;
+const CALLS: usize = 500_000;
+/// Each refusal is met at least this often from each seed.
+const LEAST: usize = 1_000;
 
 /// Compares the calls of a seed.
 fn run(seed: u64) -> Tally {
@@ -26,11 +28,12 @@ fn run(seed: u64) -> Tally {
     tally
 }
 
-/// Each refusal is met, and the largest frames are.
+/// Each refusal is met often enough, and the largest frames are met.
 fn check_counts(tally: &Tally) {
     for (call, numbers) in REFUSALS {
         for number in numbers {
-            assert!(tally.counts.of(call, *number) > 0, "{call} never gave {number}");
+            let met = tally.counts.of(call, *number);
+            assert!(met >= LEAST, "{call} gave {number} only {met} times");
         }
     }
     assert_eq!(["send", "deliver", "offer"].map(|call| tally.counts.largest(call)), [814, 504, 802]);

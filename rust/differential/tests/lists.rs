@@ -10,11 +10,11 @@ const STEPS: usize = 300;
 #[test]
 fn hostile_lists() {
     let mut totals = Totals::default();
-    for seed in 1000..1300 {
+    for seed in 1000..2500 {
         totals = hostile(&mut Random::new(seed), STEPS, totals)
             .unwrap_or_else(|failure| panic!("{failure}\nlist of seed {seed}"));
     }
-    println!("seeds 1000 to 1299:\n{totals}");
+    println!("seeds 1000 to 2499:\n{totals}");
     for (call, number) in [("send", 6), ("offer", 8), ("offer", 12), ("offer", 14), ("offer", 15), ("offer", 16)] {
         assert!(totals.counts.of(call, number) > 0, "{call} never gave {number}");
     }

@@ -8,7 +8,7 @@ use std::path::{Path, PathBuf};
 /// Seeds of the generated inputs.
 const SEEDS: [u64; 3] = [501, 502, 503];
 /// Inputs from each seed.
-const INPUTS: usize = 500;
+const INPUTS: usize = 2_000;
 /// The refusals that a yard can print.
 const REFUSALS: [u8; 5] = [6, 14, 15, 16, 17];
 
@@ -71,7 +71,7 @@ fn generated_inputs_are_valid_and_damaged() {
         other => panic!("{} is no yard", other.name()),
     });
     let (alone, others): (Vec<_>, Vec<_>) = inputs.partition(|input| reference::yard(input) == b"R 17\n");
-    assert!(alone.len() > 20 && others.len() > 300, "{} refused whole, {} not", alone.len(), others.len());
+    assert!(alone.len() > 80 && others.len() > 1_200, "{} refused whole, {} not", alone.len(), others.len());
 }
 
 #[test]
