@@ -111,7 +111,7 @@ fn take_in(
 
 impl Node {
     /// Delivers the first held frame that is deliverable: takes it out of the queue, writes its body into `body` and trim's extra frames into `out`, and gives the new record.
-    pub fn deliver(self, queue: &mut [u8], out: &mut [u8], body: &mut [u8]) -> Delivery
+    pub fn deliver(mut self, queue: &mut [u8], out: &mut [u8], body: &mut [u8]) -> Delivery
         ensures { λ r. ⌜ afterDeliver r (now (queue .exit)) (now (out .exit)) (now (body .exit)) ≡ deliverCall self (now (queue .entry)) (now (out .entry)) (now (body .entry)) ⌝ }
     {
         let me = self.me;
@@ -129,15 +129,14 @@ impl Node {
             let answer = DeliverAnswer::Nothing(held);
             return Delivery { answer, node: self };
         }
-        let mut next = self;
         let at = place - 1;
         let a = wire::MAX_FRAME * at;
         let z = holdback::frame_end(queue, at);
-        let d = take_in(&queue[a..z], place, &mut next.m, out, body, me, n, cap);
-        count_up(&mut next.deliv, d.from as usize);
+        let d = take_in(&queue[a..z], place, &mut self.m, out, body, me, n, cap);
+        count_up(&mut self.deliv, d.from as usize);
         holdback::remove(queue, held, at);
-        next.held = (held - 1) as u8;
+        self.held = (held - 1) as u8;
         let answer = DeliverAnswer::Frame(d);
-        Delivery { answer, node: next }
+        Delivery { answer, node: self }
     }
 }

@@ -62,7 +62,7 @@ fn hold_refusal<'a>(
 
 impl Node {
     /// Offers a frame: it is checked and held.
-    pub fn offer(self, frame: &[u8], queue: &mut [u8]) -> Offered
+    pub fn offer(mut self, frame: &[u8], queue: &mut [u8]) -> Offered
         ensures { λ r. ⌜ afterOffer r (now (queue .exit)) ≡ offerCall self (now (frame .entry)) (now (queue .entry)) ⌝ }
     {
         let me = self.me;
@@ -85,12 +85,11 @@ impl Node {
             return Offered { answer, node: self };
         }
         holdback::hold(queue, held as usize, frame);
-        let mut next = self;
-        next.held = held + 1;
+        self.held = held + 1;
         let answer = OfferAnswer::Held {
             count: held as usize + 1,
             ready: v.ready,
         };
-        Offered { answer, node: next }
+        Offered { answer, node: self }
     }
 }

@@ -47,7 +47,7 @@ fn refusal<'a>(
 
 impl Node {
     /// Sends a body to node `to`: writes the user frame and then trim's extra frames into `out`, and gives the new record.
-    pub fn send(self, to: usize, body: &[u8], out: &mut [u8]) -> Sent
+    pub fn send(mut self, to: usize, body: &[u8], out: &mut [u8]) -> Sent
         ensures { λ r. ⌜ afterSend r (now (out .exit)) ≡ sendCall self to (now (body .entry)) (now (out .entry)) ⌝ }
     {
         let me = self.me;
@@ -60,20 +60,19 @@ impl Node {
             let answer = SendAnswer::Refused(why);
             return Sent { answer, node: self };
         }
-        let mut next = self;
         let a = Address {
             from: me,
             to: to as u8,
             n,
             cap,
         };
-        let at = frame::write::user(out, 0, a, &next.m, body);
-        matrix::clear_column(&mut next.m, me as usize, to);
-        let t = trim::trim(&mut next.m, out, at, me, n, cap);
+        let at = frame::write::user(out, 0, a, &self.m, body);
+        matrix::clear_column(&mut self.m, me as usize, to);
+        let t = trim::trim(&mut self.m, out, at, me, n, cap);
         let answer = SendAnswer::Sent {
             bytes: t.at,
             extras: t.extras as usize,
         };
-        Sent { answer, node: next }
+        Sent { answer, node: self }
     }
 }

@@ -109,11 +109,11 @@ remove-requires c κs =
     let k = passed-checks (i .before .before .before .before .before) in
     (k .queue .size, k .queue .most, within i, k .layout)
 
-sub-next : tie.Need-sub-next
-sub-next c = omega (arith, within (c .before .before .before .before .before .before .before .before .before .before .before .before .before .before .before .before .before .before .before))
+sub-self : tie.Need-sub-self
+sub-self c = omega (arith, within (c .before .before .before .before .before .before .before .before .before .before .before .before .before .before .before .before .before .before .before))
 
-cast-next : tie.Need-cast-next
-cast-next c = record { fits = omega (arith, passed-checks (c .before .before .before .before .before .before .before .before .before .before .before .before .before .before .before .before .before .before .before .before .before .before .before .before) .queue .most) }
+cast-self : tie.Need-cast-self
+cast-self c = record { fits = omega (arith, passed-checks (c .before .before .before .before .before .before .before .before .before .before .before .before .before .before .before .before .before .before .before .before .before .before .before .before) .queue .most) }
 
 same-length-3 : tie.Need-same-length-3
 same-length-3 c = search needs
@@ -156,8 +156,8 @@ deliver-spec =
     cast-count-up
     count-up-requires
     remove-requires
-    sub-next
-    cast-next
+    sub-self
+    cast-self
     same-length-3
     same-length-4
     same-length-5

@@ -82,11 +82,11 @@ cast-hold c = search needs
 hold-requires : tie.Need-hold-requires
 hold-requires c κs = let k = free (c .before) in (k .size, k .room, k .fits, k .queue)
 
-add-next : tie.Need-add-next
-add-next c = let k = free (c .before .before .before .before) in record { fits = omega (arith, k .room) }
+add-self : tie.Need-add-self
+add-self c = let k = free (c .before .before .before .before) in record { fits = omega (arith, k .room) }
 
-cast-t26 : tie.Need-cast-t26
-cast-t26 c = let k = free (c .before .before .before .before) in record { fits = omega (arith, k .room) }
+cast-t25 : tie.Need-cast-t25
+cast-t25 c = let k = free (c .before .before .before .before) in record { fits = omega (arith, k .room) }
 
 add-t33 : tie.Need-add-t33
 add-t33 c = let k = free (c .before .before .before .before) in record { fits = omega (arith, k .room) }
@@ -122,8 +122,8 @@ offer-spec =
     returns-3
     cast-hold
     hold-requires
-    add-next
-    cast-t26
+    add-self
+    cast-t25
     add-t33
     same-length-4
     returns-4)

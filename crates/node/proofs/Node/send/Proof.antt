@@ -25,8 +25,8 @@ returns c =
     let s = start (c .before) in
     send-refused (s .args .t1) (s .args .to) (s .args .body .now) (s .args .out .now) _ (c .before .refusal .ensures) (c .if1 .taken)
 
-cast-t20 : tie.Need-cast-t20
-cast-t20 c =
+cast-t19 : tie.Need-cast-t19
+cast-t19 c =
     let k = passed-checks c in
     record { fits = omega (arith, k .destination, k .sound .range .atMost12) }
 
@@ -61,8 +61,8 @@ trim-requires c κs =
       cleared-limit (s .args .t1) (s .args .to) _ me to (k .sound .limit) (k .below (s .args .to) to) (l .clear-column .ensures),
     )
 
-cast-t29 : tie.Need-cast-t29
-cast-t29 c = search needs
+cast-t27 : tie.Need-cast-t27
+cast-t27 c = search needs
 
 same-length : tie.Need-same-length
 same-length c = search needs
@@ -86,11 +86,11 @@ send-spec =
     (tie.spec
     refusal-requires
     returns
-    cast-t20
+    cast-t19
     user-requires
     cast-clear-column
     clear-column-requires
     trim-requires
-    cast-t29
+    cast-t27
     same-length
     returns-2)
