@@ -25,7 +25,6 @@ use denote.Memory.{mem, partOf, partAt, cellAt}
 use denote.Plain.{uint-vals, uint-tells, uint-makes}
 use denote.Builtin.{u32, unit}
 use denote.Ref.{RefT, MutRef}
-use denote.Signature.{plain}
 use denote.Steps.{owned, peeks, heard, nothing, only}
 use denote.Struct.Steps.{spelt}
 use denote.Struct.Laws as LL

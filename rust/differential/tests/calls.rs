@@ -11,7 +11,7 @@ const REFUSALS: [(&str, &[u8]); 4] = [
     ("deliver", &[2, 3, 4, 5]),
 ];
 /// Calls from each seed.
-const CALLS: usize = 500_000;
+const CALLS: usize = 250_000;
 /// Each refusal is met at least this often from each seed.
 const LEAST: usize = 1_000;
 
