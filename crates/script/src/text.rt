@@ -1,5 +1,5 @@
 //! The numbers of a line.
-ghost use Prim.Native.Nat.{_≤_};
+ghost use Prim.Native.Nat.{_≤_, _%_};
 ghost use mathlib.Core.Path.{_≡_};
 ghost use lib.ListN.{length, take};
 
@@ -19,17 +19,23 @@ pub fn within(s: &[u8], n: usize) -> usize
 }
 
 /// A byte as a number of another width.
-pub fn wide(b: u8) -> usize {
+pub fn wide(b: u8) -> usize
+    ensures { λ r. ⌜ r ≡ b ⌝ }
+{
     b as usize
 }
 
 /// A count as a number of another width.
-pub fn wide32(v: u32) -> usize {
+pub fn wide32(v: u32) -> usize
+    ensures { λ r. ⌜ r ≡ v ⌝ }
+{
     v as usize
 }
 
 /// A number cut to a byte.
-pub fn byte(n: usize) -> u8 {
+pub fn byte(n: usize) -> u8
+    ensures { λ r. ⌜ r ≡ n % 256 ⌝ }
+{
     (n % 256) as u8
 }
 
