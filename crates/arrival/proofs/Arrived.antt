@@ -3,7 +3,9 @@ use Prim.Native.Nat.{_+_, _-_, _<_, _≤_, suc, ℕ}
 use mathlib.Core.Bool.{false, true}
 use mathlib.Core.List.{List}
 use mathlib.Core.Path.{_≡_}
+use native.Mathlib.Omega.{arith}
 use borrow.Author.Tests.{eq-eqb, le-leb, lt-leb, ne-eqb}
+use lib.Dec.{eqb, eqb→eq, ltb, nleb→lt, nltb→le}
 use Rattle.arrival.proofs.Sound.{readable}
 use Rattle.arrival.proofs.Walks.{claims-walk, everyEntry, ready-walk, someEntry}
 use Rattle.arrival.specs.Checked.{Checked}
@@ -18,8 +20,10 @@ use Rattle.frame.specs.declared.entries.Entry.{Entry}
 use Rattle.frame.specs.declared.header.Header.{Header}
 use Rattle.matrix.specs.Array.{entry, vector}
 use Rattle.matrix.specs.Message.{Message, number}
+use Rattle.protocol.proofs.Below.{none-some, some-none}
 use Rattle.protocol.specs.Node.{Node}
-use Rattle.protocol.specs.Offer.{claimsTooMuch, deliverable}
+use Rattle.protocol.specs.Offer.{claimsTooMuch, deliverable, deliveredBefore, notForMe}
+use Rattle.wire.proofs.Tests.{is-false, le→nltb, not-not, skipped}
 
 -- deliverability: every entry is ready
 pub deliverable-walk : (s : List ℕ) (h : Header) (me : ℕ) (deliv : List ℕ) → Checked s → h ≡ header s → (n cap : ℕ) (m : List ℕ) (held : List Message)
@@ -79,3 +83,26 @@ module _ (d : Node) (g : Message) where
   pub arrival-none : g .to ≡ d .me → claimsTooMuch d g ≡ false → d .deliv (g .from) < number g → arrivalRefusal d g ≡ 0
   unfolding arrivalRefusal
   arrival-none p t q = rw (eq-eqb (g .to) (d .me) p, t, lt-leb (number g) (d .deliv (g .from)) q)
+
+  -- what a message that meets none of them keeps, and the other way round
+  pub record Arrives : Type 0 where
+    pub here : g .to ≡ d .me
+    pub claims : (y : ℕ) → y < 12 → g .entries (d .me) y ≤ d .matrix (d .me) y
+    pub new : d .deliv (g .from) < number g
+
+  pub arrives : arrivalRefusal d g ≡ 0 → Arrives
+  unfolding arrivalRefusal
+  arrives e =
+      let a = skipped (notForMe d g) 12 _ (omega arith) e in
+      let b = skipped (claimsTooMuch d g) 13 _ (omega arith) (a .1) in
+      let c = skipped (deliveredBefore d g) 14 0 (omega arith) (b .1) in
+      record {
+        here = eqb→eq (g .to) (d .me) (not-not (eqb (g .to) (d .me)) (a .0));
+        claims = λ y h. nltb→le (d .matrix (d .me) y) (g .entries (d .me) y) (some-none 12 (λ y. ltb (d .matrix (d .me) y) (g .entries (d .me) y)) (b .0) y h);
+        new = nleb→lt (number g) (d .deliv (g .from)) (c .0);
+      }
+
+  pub arrives-back : Arrives → arrivalRefusal d g ≡ 0
+  arrives-back k =
+      arrival-none (k .here)
+      (is-false (claimsTooMuch d g) (none-some 12 (λ y. ltb (d .matrix (d .me) y) (g .entries (d .me) y)) (λ y h. le→nltb (d .matrix (d .me) y) (g .entries (d .me) y) (k .claims y h)))) (k .new)

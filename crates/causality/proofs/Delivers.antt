@@ -13,7 +13,7 @@ use Rattle.causality.proofs.Frames.{cut-nothing, issued-frames, trim-ba
 use Rattle.causality.proofs.Matches.{Agrees}
 use Rattle.causality.proofs.Offers.{queue-passes, whole-back}
 use Rattle.causality.proofs.Queues.{Bodies, frames-back, queue-length}
-use Rattle.causality.proofs.Records.{either-T, record-kept}
+use Rattle.causality.proofs.Records.{record-kept}
 use Rattle.causality.specs.Demand3.{delivered}
 use Rattle.frame.specs.Frame.{encode}
 use Rattle.holdback.specs.Check.{wrongQueue}
@@ -32,7 +32,7 @@ use Rattle.protocol.proofs.Lists.{at-none}
 use Rattle.protocol.specs.Node.{atLimit}
 use Rattle.protocol.specs.Offer.{deliverable}
 use Rattle.wire.proofs.Bytes.{small-bytes}
-use Rattle.wire.proofs.Tests.{cond-no, cond-yes, decide, eq→eqb, le→nltb, not-or, T-not-not}
+use Rattle.wire.proofs.Tests.{T-not-not, cond-no, cond-yes, decide, either-T, eq→eqb, le→nltb, not-or}
 use Rattle.wire.specs.Bytes.{AllBytes}
 use Rattle.protocol.specs.Deliver.{Search, absent, found, past, search, conclude, deliver, learn}
 use Rattle.protocol.specs.World as messages
@@ -95,7 +95,7 @@ module _ (n cap : ℕ) (w : messages.World) (g : Good n (λ i. cap) w) (few : le
   settled out body h absent e = record {
     node = refl;
     queue = refl;
-    answer = record { acceptance = refl; names = refl; taken = refl; given = refl };
+    answer = record { acceptance = refl; names = refl; taken = refl; given = refl; expected = inl refl };
     frames = cut-nothing out;
     bodies = λ p f a. absurd (at-none p f a);
   }
@@ -105,7 +105,7 @@ module _ (n cap : ℕ) (w : messages.World) (g : Good n (λ i. cap) w) (few : le
       record {
         node = refl;
         queue = ap₂ (λ (z : ℕ) (l : List (List ℕ)). laid (without z l)) y (frames-back n cap w g few bodies i hi) ∙ ap laid (sym (x .2));
-        answer = record { acceptance = refl; names = refl; taken = refl; given = refl };
+        answer = record { acceptance = refl; names = refl; taken = refl; given = refl; expected = inl refl };
         frames = issued-frames out ((learn (m .kind) d (m .entries)) .extras) (omega (arith, learn-room (m .kind) d (m .entries)));
         bodies = λ p f a. subst AllBytes (sym (learn-bare (m .kind) d (m .entries) p f a)) (small-bytes [] tt);
       }

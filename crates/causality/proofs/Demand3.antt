@@ -6,9 +6,11 @@ use lib.ListN.{length, length-map}
 use Rattle.causality.proofs.Matches.{Matches}
 use Rattle.causality.proofs.Order.{carried, causal, distinct, kept, once}
 use Rattle.causality.proofs.Progress.{accepts, delivers-new, exists, held-agrees}
+use Rattle.causality.proofs.Refusals.{list-refusals}
 use Rattle.causality.proofs.Runs.{run-matches, start-matches}
 use Rattle.causality.proofs.Steps.{forget}
 use Rattle.causality.specs.Demand3.{BodiesOfBytes, Demand3, Demand3For, Earliest, Issue, Step, World, run, start}
+use Rattle.causality.specs.ListRefusals.{ListRefusals}
 use Rattle.causality.specs.EachDestination.{EachDestination, EarliestThere, Progress}
 use Rattle.matrix.specs.Message.{InRange}
 use Rattle.protocol.proofs.Good.{Good}
@@ -66,6 +68,9 @@ module _ (n cap : ℕ) (inside : InRange n cap) (steps : List Step) (bytes : Bod
 
 pub demand3 : Demand3
 demand3 n cap inside steps bytes short = world-demand3 n cap inside steps bytes short
+
+pub listRefusals : ListRefusals
+listRefusals n cap inside steps bytes short = list-refusals n (w n cap inside steps bytes short) (b n cap inside steps bytes short) (m n cap inside steps bytes short)
 
 -- its last part, for each destination
 pub each-destination : EachDestination

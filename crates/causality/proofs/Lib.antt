@@ -12,5 +12,6 @@ pub mod Runs
 pub mod Reading
 pub mod Order
 pub mod Progress
+pub mod Refusals
 pub mod Demand3
 pub mod Examples

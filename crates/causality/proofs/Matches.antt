@@ -10,6 +10,7 @@ use lib.Dec.{eqb}
 use lib.ListN.{getElem?, length}
 use Rattle.causality.proofs.Queues.{Bodies}
 use Rattle.causality.specs.Demand3.{Answer, Event, Issue, Label, Step, World, accepted, afterCall, answersAt, deliveries, delivery, issuedBy, issuedFrames, offers, offersAccepted}
+use Rattle.causality.specs.ListRefusals.{Expected}
 use Rattle.frame.specs.Frame.{encode}
 use Rattle.frame.specs.Header.{kindByte}
 use Rattle.holdback.specs.Slots.{laid}
@@ -37,12 +38,13 @@ abbrev pub named : Option protocol.Label → Option Label
 named none = none
 named (some a) = some (labelOf a)
 
--- answers that say the same
+-- answers that say the same; expected: where it is a refusal, it is one that a list can meet
 pub record SameAnswer (a : protocol.Answer) (b : Answer) : Type 0 where
   pub acceptance : accepted b ≡ protocol.accepted a
   pub names : delivery b ≡ named (protocol.delivery a)
   pub taken : offersAccepted b ≡ stated.offersAccepted a
   pub given : deliveries b ≡ stated.deliveries a
+  pub expected : Expected b
 
 -- steps that offer the same issue at the same node, or none
 pub record SameStep (s : messages.Step) (t : Step) : Type 0 where

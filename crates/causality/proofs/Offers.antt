@@ -2,15 +2,17 @@
 use Prim.Native.Nat.{_<_, ℕ}
 use mathlib.Core.Bool.{cond, not}
 use mathlib.Core.List.{List, [], _++_, _∷_, map, map-append}
+use mathlib.Core.Logic.{inl, inr}
 use mathlib.Core.Path.{_∙_, _≡_, ap, ap₂, refl, subst, sym}
-use lib.Dec.{T, eqb}
+use lib.Dec.{T, T-not, eqb}
 use lib.ListN.{length}
 use Rattle.causality.proofs.Frames.{cut-nothing}
 use Rattle.causality.proofs.Matches.{Agrees}
-use Rattle.causality.proofs.Queues.{Bodies, frame-passes, frames-back, messages-back, queue-length, queue-right, sound-issue}
+use Rattle.causality.proofs.Queues.{Bodies, frame-passes, frames-back, messages-back, queue-here, queue-length, sound-issue}
 use Rattle.causality.proofs.Records.{node-back, record-kept}
 use Rattle.causality.proofs.Refused.{SaysNo, refused-agrees}
 use Rattle.causality.specs.Demand3.{offered}
+use Rattle.causality.specs.ListRefusals.{Expected}
 use Rattle.frame.proofs.Written.{decode-encode}
 use Rattle.frame.specs.Frame.{decode, encode}
 use Rattle.frame.specs.Refusals.{frameRefusal}
@@ -20,6 +22,7 @@ use Rattle.matrix.specs.Message.{Message}
 use Rattle.node.specs.Answers.{AfterOffer}
 use Rattle.node.specs.Calls.{acceptOffer, offerCall, refuseOffer}
 use Rattle.node.specs.Record.{brokenRecord, nodeOf, recordOf}
+use Rattle.protocol.proofs.Bounds.{claims-little}
 use Rattle.protocol.proofs.Good.{Good}
 use Rattle.protocol.proofs.Grown.{nodeAt}
 use Rattle.protocol.proofs.Lists.{at-none}
@@ -34,17 +37,18 @@ use Rattle.node.specs.Calls.{refusal as refusalOf}
 
 -- an offer of m at d is refused, or it is not
 data Case (d : MessageNode) (m : Message) : Type 0 where
-  refuses : (k : ℕ) → T (not (eqb k 0)) → offer d m ≡ protocol.refuse k d → Case d m
+  refuses : (k : ℕ) → T (not (eqb k 0)) → Expected (offered (answer.Refused k)) → offer d m ≡ protocol.refuse k d → Case d m
   accepts : offer d m ≡ holding d m → Case d m
 
-case : (d : MessageNode) (m : Message) → Case d m
+-- one that claims no more than stands in row me
+case : (d : MessageNode) (m : Message) → T (not (claimsTooMuch d m)) → Case d m
 unfolding offer
-case d m =
-    cond-elim P (notForMe d m) (protocol.refuse 12 d) t₂ (λ _ e. refuses 12 tt e)
-    (λ _. cond-elim P (claimsTooMuch d m) (protocol.refuse 13 d) t₃ (λ _ e. refuses 13 tt e)
-    (λ _. cond-elim P (deliveredBefore d m) (protocol.refuse 14 d) t₄ (λ _ e. refuses 14 tt e)
-    (λ _. cond-elim P (heldAlready d m) (protocol.refuse 15 d) t₅ (λ _ e. refuses 15 tt e)
-    (λ _. cond-elim P (noRoom d m) (protocol.refuse 16 d) (holding d m) (λ _ e. refuses 16 tt e) (λ _ e. accepts e)))))
+case d m c =
+    cond-elim P (notForMe d m) (protocol.refuse 12 d) t₂ (λ _ e. refuses 12 tt (inr (inl refl)) e)
+    (λ _. cond-elim P (claimsTooMuch d m) (protocol.refuse 13 d) t₃ (λ t _. absurd (T-not (claimsTooMuch d m) c t))
+    (λ _. cond-elim P (deliveredBefore d m) (protocol.refuse 14 d) t₄ (λ _ e. refuses 14 tt (inr (inr (inl refl))) e)
+    (λ _. cond-elim P (heldAlready d m) (protocol.refuse 15 d) t₅ (λ _ e. refuses 15 tt (inr (inr (inr (inl refl)))) e)
+    (λ _. cond-elim P (noRoom d m) (protocol.refuse 16 d) (holding d m) (λ _ e. refuses 16 tt (inr (inr (inr (inr (inl refl))))) e) (λ _ e. accepts e)))))
     refl
   where
     P : protocol.Outcome → Type 0
@@ -84,7 +88,7 @@ module _ (n cap : ℕ) (w : messages.World) (g : Good n (λ i. cap) w) (few : le
   -- check 4 is not met
   pub queue-passes : T (not (wrongQueue (nodeOf r []) (length (w .nodes i .held)) q))
   queue-passes =
-      subst (λ (z : MessageNode). T (not (wrongQueue z (length (w .nodes i .held)) q))) (sym (node-back n cap w g few i hi [])) (queue-right n cap w g few bodies i hi)
+      subst (λ (z : MessageNode). T (not (wrongQueue z (length (w .nodes i .held)) q))) (sym (node-back n cap w g few i hi [])) (queue-here n cap w g few bodies i hi)
 
   -- what an offer leaves
   abbrev Left : protocol.Outcome → AfterOffer → Type 0
@@ -94,17 +98,17 @@ module _ (n cap : ℕ) (w : messages.World) (g : Good n (λ i. cap) w) (few : le
   abbrev settle : List ℕ → protocol.Outcome → AfterOffer
   settle s o = cond (protocol.accepted (o .answer)) (acceptOffer r s q o) (refuseOffer (refusalOf (o .answer)) r q)
 
-  says-no : (k : ℕ) → T (not (eqb k 0)) → SaysNo (offered (answer.Refused k))
-  says-no k t = record { refuses = is-false (eqb k 0) t; nothing = refl; holds = refl; gives = refl; counts = refl }
+  says-no : (k : ℕ) → T (not (eqb k 0)) → Expected (offered (answer.Refused k)) → SaysNo (offered (answer.Refused k))
+  says-no k t x = record { refuses = is-false (eqb k 0) t; nothing = refl; holds = refl; gives = refl; counts = refl; expected = x }
 
   settled : (m : Message) → Case d m → Left (offer d m) (settle (encode m) (offer d m))
-  settled m (refuses k t e) = subst (λ (o : protocol.Outcome). Left o (settle (encode m) o)) (sym e) (refused-agrees d k (offered (answer.Refused k)) [] (says-no k t))
+  settled m (refuses k t x e) = subst (λ (o : protocol.Outcome). Left o (settle (encode m) o)) (sym e) (refused-agrees d k (offered (answer.Refused k)) [] (says-no k t x))
   settled m (accepts e) =
       subst (λ (o : protocol.Outcome). Left o (settle (encode m) o)) (sym e)
       (record {
         node = refl;
         queue = ap (λ (l : List (List ℕ)). laid (l ++ (encode m ∷ []))) (frames-back n cap w g few bodies i hi) ∙ ap laid (sym (map-append encode (w .nodes i .held) (m ∷ [])));
-        answer = record { acceptance = refl; names = refl; taken = refl; given = refl };
+        answer = record { acceptance = refl; names = refl; taken = refl; given = refl; expected = inl refl };
         frames = cut-nothing [];
         bodies = λ p f a. absurd (at-none p f a);
       })
@@ -123,4 +127,4 @@ module _ (n cap : ℕ) (w : messages.World) (g : Good n (λ i. cap) w) (few : le
       ∙ cond-no (wrongQueue (nodeOf r []) (length (w .nodes i .held)) q) (refuseOffer 4 r q) t₈ queue-passes
       ∙ cond-no (not (eqb (frameRefusal n cap s) 0)) (refuseOffer (frameRefusal n cap s) r q) (settle s o) (T-not-not (eqb (frameRefusal n cap s) 0) (eq→eqb (frameRefusal n cap s) 0 (frame-passes n cap w g few bodies p f at)))
       ∙ ap₂ (λ (z : MessageNode) (m : Message). settle s (offer z m)) whole-back (decode-encode (f .message) (sound-issue n cap w g few bodies p f at))))
-      (settled (f .message) (case d (f .message)))
+      (settled (f .message) (case d (f .message) (claims-little n (λ k. cap) w g p f at i)))

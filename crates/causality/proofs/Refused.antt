@@ -9,32 +9,33 @@ use lib.Dec.{T, eqb, eqb-refl, ltb}
 use lib.ListN.{take}
 use Rattle.causality.proofs.Frames.{cut-nothing}
 use Rattle.causality.proofs.Matches.{Agrees}
-use Rattle.causality.proofs.Records.{either-T}
 use Rattle.causality.specs.Demand3.{Answer, accepted, counted, deliveries, delivery, framesIn, offersAccepted}
+use Rattle.causality.specs.ListRefusals.{Expected}
 use Rattle.frame.specs.Frame.{encode}
 use Rattle.holdback.specs.Slots.{laid}
 use Rattle.node.specs.Record.{recordOf}
 use Rattle.protocol.proofs.Lists.{at-none}
 use Rattle.protocol.specs.Node.{atLimit}
 use Rattle.protocol.specs.Send.{badDestination, longBody, send, sending}
-use Rattle.wire.proofs.Tests.{cond-no, cond-yes}
+use Rattle.wire.proofs.Tests.{cond-no, cond-yes, either-T}
 use Rattle.protocol.specs.Answer as protocol
 use Rattle.protocol.specs.Node.{Node as MessageNode}
 
--- an answer that says no
+-- an answer that says no, as a list can meet it
 pub record SaysNo (a : Answer) : Type 0 where
   pub refuses : accepted a ≡ false
   pub nothing : delivery a ≡ none
   pub holds : offersAccepted a ≡ 0
   pub gives : deliveries a ≡ 0
   pub counts : counted a ≡ 0
+  pub expected : Expected a
 
 -- any refusal of a step agrees with any of a call
 pub refused-agrees : (d : MessageNode) (k : ℕ) (a : Answer) (out : List ℕ) → SaysNo a → Agrees (protocol.refuse k d) (recordOf d) (laid (map encode (d .held))) a out
 refused-agrees d k a out s = record {
   node = refl;
   queue = refl;
-  answer = record { acceptance = s .refuses; names = s .nothing; taken = s .holds; given = s .gives };
+  answer = record { acceptance = s .refuses; names = s .nothing; taken = s .holds; given = s .gives; expected = s .expected };
   frames = ap (λ (c : ℕ). framesIn (take c out)) (s .counts) ∙ cut-nothing out;
   bodies = λ p m e. absurd (at-none p m e);
 }

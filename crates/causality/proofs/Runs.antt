@@ -9,7 +9,7 @@ use lib.Dec.{T, ltb, ltb→lt, nltb→le}
 use lib.ListN.{getElem?, length}
 use Rattle.wire.specs.Limits.{maxBody}
 use Rattle.causality.proofs.Matches.{Matches, empty, encodeIssue}
-use Rattle.causality.proofs.Records.{range-T}
+use Rattle.causality.proofs.Records.{in-range}
 use Rattle.causality.proofs.Steps.{deliver-matches, deliver-matches-short, forget, lentLess, offer-matches, send-matches, send-matches-short}
 use Rattle.causality.specs.Demand3.{BodiesOfBytes, Issue, Step, World, deliverAt, delivers, offerIssue, offers, run, sendAt, sends, start, step}
 use Rattle.holdback.specs.Slots.{laid, queueSize, slots, zeros}
@@ -18,6 +18,7 @@ use Rattle.matrix.specs.Message.{InRange}
 use Rattle.node.specs.Calls.{deliverCall, sendCall}
 use Rattle.node.specs.Sizes.{outSize}
 use Rattle.node.specs.Record.{recordOf}
+use Rattle.rules.proofs.Kept.{range-T}
 use Rattle.rules.specs.Rules.{inRange}
 use Rattle.node.specs.SetUp.{freshRecord, setUp}
 use Rattle.node.specs.declared.SetUp.{SetUp}
@@ -104,7 +105,7 @@ empty-queue = refl
 pub start-matches : (n cap : ℕ) → InRange n cap → Matches n (messages.start n (λ i. cap)) (start n cap)
 unfolding setUp
 start-matches n cap r = record {
-  records = λ k h. ap (λ (x : SetUp). x .node) (cond-yes (inRange k n cap) (record { answer = Ready; node = freshRecord k n cap }) (record { answer = Refused 1; node = freshRecord 0 0 0 }) (range-T k n cap h r)) ∙ fresh-record k n cap;
+  records = λ k h. ap (λ (x : SetUp). x .node) (cond-yes (inRange k n cap) (record { answer = Ready; node = freshRecord k n cap }) (record { answer = Refused 1; node = freshRecord 0 0 0 }) (range-T k n cap (in-range k n cap h r))) ∙ fresh-record k n cap;
   queues = λ k h. empty-queue;
   log = refl;
   history = empty;

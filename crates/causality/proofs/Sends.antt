@@ -14,6 +14,7 @@ use Rattle.causality.proofs.Queues.{Bodies}
 use Rattle.causality.proofs.Records.{node-back, record-kept}
 use Rattle.causality.proofs.Refused.{SaysNo, refused-agrees}
 use Rattle.causality.specs.Demand3.{sent}
+use Rattle.causality.specs.ListRefusals.{Expected}
 use Rattle.frame.proofs.Written.{length-encode}
 use Rattle.frame.specs.Frame.{encode}
 use Rattle.holdback.specs.Slots.{laid}
@@ -65,7 +66,7 @@ module _ (n cap : ℕ) (w : messages.World) (g : Good n (λ i. cap) w) (few : le
 
   -- a send is refused, or it is not, whatever is held
   data Case (to : ℕ) (body : List ℕ) : Type 0 where
-    refuses : (k : ℕ) → T (not (eqb k 0)) → ((l : List Message) → send (with-held l) to body ≡ protocol.refuse k (with-held l)) → Case to body
+    refuses : (k : ℕ) → T (not (eqb k 0)) → Expected (sent (answer.Refused k)) → ((l : List Message) → send (with-held l) to body ≡ protocol.refuse k (with-held l)) → Case to body
     accepts : length body ≤ maxBody → ((l : List Message) → send (with-held l) to body ≡ sending (with-held l) to body) → Case to body
 
   case : (to : ℕ) (body : List ℕ) → Case to body
@@ -79,9 +80,9 @@ module _ (n cap : ℕ) (w : messages.World) (g : Good n (λ i. cap) w) (few : le
       rest l = cond (eqb to i || not (ltb to n)) (protocol.refuse 6 (with-held l)) (last l)
 
       go : T (eqb to i || not (ltb to n)) ⊎ T (not (eqb to i || not (ltb to n))) → T (longBody body) ⊎ T (not (longBody body)) → Case to body
-      go (inl a) b = refuses 6 tt (λ l. cond-no (atLimit (with-held l)) (protocol.refuse 5 (with-held l)) (rest l) (free l) ∙ cond-yes (eqb to i || not (ltb to n)) (protocol.refuse 6 (with-held l)) (last l) a)
+      go (inl a) b = refuses 6 tt (inr (inr (inl refl))) (λ l. cond-no (atLimit (with-held l)) (protocol.refuse 5 (with-held l)) (rest l) (free l) ∙ cond-yes (eqb to i || not (ltb to n)) (protocol.refuse 6 (with-held l)) (last l) a)
       go (inr a) (inl b) =
-          refuses 7 tt (λ l. cond-no (atLimit (with-held l)) (protocol.refuse 5 (with-held l)) (rest l) (free l) ∙ cond-no (eqb to i || not (ltb to n)) (protocol.refuse 6 (with-held l)) (last l) a
+          refuses 7 tt (inr (inr (inr (inl refl)))) (λ l. cond-no (atLimit (with-held l)) (protocol.refuse 5 (with-held l)) (rest l) (free l) ∙ cond-no (eqb to i || not (ltb to n)) (protocol.refuse 6 (with-held l)) (last l) a
           ∙ cond-yes (longBody body) (protocol.refuse 7 (with-held l)) (sending (with-held l) to body) b)
       go (inr a) (inr b) =
           accepts (nltb→le maxBody (length body) b) (λ l. cond-no (atLimit (with-held l)) (protocol.refuse 5 (with-held l)) (rest l) (free l) ∙ cond-no (eqb to i || not (ltb to n)) (protocol.refuse 6 (with-held l)) (last l) a
@@ -104,20 +105,20 @@ module _ (n cap : ℕ) (w : messages.World) (g : Good n (λ i. cap) w) (few : le
   abbrev settle : List ℕ → protocol.Outcome → AfterSend
   settle out o = cond (protocol.accepted (o .answer)) (acceptSend r out o) (refuseSend (refusalOf (o .answer)) r out)
 
-  says-no : (k : ℕ) → T (not (eqb k 0)) → SaysNo (sent (answer.Refused k))
-  says-no k t = record { refuses = is-false (eqb k 0) t; nothing = refl; holds = refl; gives = refl; counts = refl }
+  says-no : (k : ℕ) → T (not (eqb k 0)) → Expected (sent (answer.Refused k)) → SaysNo (sent (answer.Refused k))
+  says-no k t x = record { refuses = is-false (eqb k 0) t; nothing = refl; holds = refl; gives = refl; counts = refl; expected = x }
 
   settled : (to : ℕ) (body out : List ℕ) → AllBytes body → outSize ≤ length out → Case to body → Left (send d to body) (settle out (send (with-held []) to body))
-  settled to body out bytes h (refuses k t e) =
+  settled to body out bytes h (refuses k t x e) =
       subst (λ (o : protocol.Outcome). Left o (settle out (send (with-held []) to body))) (sym (e (w .nodes i .held)))
-      (subst (λ (o : protocol.Outcome). Left (protocol.refuse k d) (settle out o)) (sym (e [])) (refused-agrees d k (sent (answer.Refused k)) out (says-no k t)))
+      (subst (λ (o : protocol.Outcome). Left (protocol.refuse k d) (settle out o)) (sym (e [])) (refused-agrees d k (sent (answer.Refused k)) out (says-no k t x)))
   settled to body out bytes h (accepts short e) =
       subst (λ (o : protocol.Outcome). Left o (settle out (send (with-held []) to body))) (sym (e (w .nodes i .held)))
       (subst (λ (o : protocol.Outcome). Left (sending d to body) (settle out o)) (sym (e []))
       (record {
         node = refl;
         queue = refl;
-        answer = record { acceptance = refl; names = refl; taken = refl; given = refl };
+        answer = record { acceptance = refl; names = refl; taken = refl; given = refl; expected = inl refl };
         frames = issued-frames out issues (omega (arith, send-room (sentMessage d to body) (user-fits to body short) extras (trim-bytes 12 i n cap (clear i to (w .nodes i .matrix)))));
         bodies = all-bytes;
       }))

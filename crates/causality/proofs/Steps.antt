@@ -2,6 +2,7 @@
 use Prim.Native.Nat.{_<_, _≤_, ℕ}
 use mathlib.Core.Bool.{Bool, _||_, cond}
 use mathlib.Core.List.{List, [], map}
+use mathlib.Core.Logic.{inl, inr}
 use mathlib.Core.Path.{_∙_, _≡_, ap, refl, subst, sym}
 use native.Mathlib.Omega.{arith}
 use lib.Dec.{T, ltb}
@@ -119,7 +120,7 @@ module _ (n cap : ℕ) (w : messages.World) (b : World) (g : Good n (λ i. cap) 
         matched (messages.sends i i []) (sends i to body out) (send-send i i i to [] body out) (λ z. send z i []) (c .result .node) (b .queues i) (sent (c .result .answer)) (c .out)
         (sent-with (send d i [])
         (subst (λ (x : AfterSend). Agrees (send d i []) (x .result .node) (laid (map encode (w .nodes i .held))) (sent (x .result .answer)) (x .out)) (sym (send-short n cap w g few (m .bodies) i hi to body out h))
-        (own-agrees (sent (sendAnswer.Refused 3)) out (record { refuses = refl; nothing = refl; holds = refl; gives = refl; counts = refl }))))
+        (own-agrees (sent (sendAnswer.Refused 3)) out (record { refuses = refl; nothing = refl; holds = refl; gives = refl; counts = refl; expected = inr (inl refl) }))))
 
   -- an offer of issue p
   module _ (p : ℕ) (f : messages.Issue) (at : messages.IssueAt w p f) where
@@ -162,4 +163,4 @@ module _ (n cap : ℕ) (w : messages.World) (b : World) (g : Good n (λ i. cap) 
         matched (messages.sends i i []) (delivers i out body) (send-deliver i i i [] out body) (λ z. send z i []) (c .result .node) (c .queue) (delivered (c .result .answer)) (c .out)
         (given-with (send d i [])
         (subst (λ (x : AfterDeliver). Agrees (send d i []) (x .result .node) (x .queue) (delivered (x .result .answer)) (x .out)) (sym (deliver-short n cap w g few (m .bodies) i hi out body h))
-        (own-agrees (delivered (deliverAnswer.Refused 3)) out (record { refuses = refl; nothing = refl; holds = refl; gives = refl; counts = refl }))))
+        (own-agrees (delivered (deliverAnswer.Refused 3)) out (record { refuses = refl; nothing = refl; holds = refl; gives = refl; counts = refl; expected = inr (inl refl) }))))

@@ -13,3 +13,4 @@ pub mod Keys
 pub mod Pairs
 pub mod Filling
 pub mod Queues
+pub mod Passing

@@ -6,7 +6,7 @@ use mathlib.Core.Option.{some}
 use mathlib.Core.Path.{_∙_, _≡_, ap, refl, sym}
 use native.Mathlib.Omega.{arith}
 use borrow.Author.Tests.{le-ltb, lt-ltb, ne-eqb}
-use lib.Dec.{eqb, ltb, nltb→le}
+use lib.Dec.{T, eqb, ltb, nltb→le}
 use lib.ListN.{length, length-map}
 use Rattle.node.proofs.Shared.{RecordPassed, checked-queue, queue-laid, record-met, record-passed, record-past}
 use Rattle.node.proofs.Offering.{length-messages}
@@ -36,7 +36,7 @@ use Rattle.protocol.specs.Node.{Node, atLimit}
 use Rattle.protocol.specs.Offer.{deliverable}
 use Rattle.protocol.specs.Trim.{Trimmed}
 use Rattle.rules.proofs.Facts.{Unbroken}
-use Rattle.wire.proofs.Tests.{of-false, or-not}
+use Rattle.wire.proofs.Tests.{of-false, or-not, skipped}
 use Rattle.wire.specs.Bytes.{put}
 use Rattle.wire.specs.Limits.{maxBody}
 use Rattle.node.specs.declared.Delivered.{Delivered}
@@ -115,6 +115,7 @@ pub record Ready (r : Record) (q : List ℕ) (out body : ℕ) : Type 0 where
   pub room : maxBody ≤ body
   pub queue : CheckedQueue (r .held) q
   pub layout : q ≡ laid (heldFrames (r .held) q)
+  pub free : T (not (atLimit (nodeAt r q)))
 
 pub deliver-ready : (r : Record) (q : List ℕ) (out body : ℕ) → deliverRefusal r q (shortOutputs out body) ≡ 0 → Ready r q out body
 unfolding deliverRefusal
@@ -127,6 +128,7 @@ deliver-ready r q out body e =
       room = nltb→le body maxBody (t .1);
       queue = checked-queue r q (shortOutputs out body) p;
       layout = queue-laid r q (shortOutputs out body) p;
+      free = skipped (atLimit (nodeAt r q)) 5 0 (omega arith) (sym (record-past r q (shortOutputs out body) _ p) ∙ e) .0;
     }
 
 -- no held frame is deliverable

@@ -6,7 +6,7 @@ use mathlib.Core.Path.{_∙_, _≡_, refl, sym}
 use native.Mathlib.Decide.{ℕ-discrete}
 use native.Mathlib.Omega.{arith}
 use borrow.Author.Tests.{eq-eqb, ne-eqb}
-use lib.Dec.{eqb}
+use lib.Dec.{T, eqb}
 use lib.ListN.{length, length-append, length-map}
 use Rattle.arrival.specs.Tests.{ready}
 use Rattle.arrival.specs.View.{arrivalRefusal}
@@ -17,7 +17,7 @@ use Rattle.holdback.proofs.Slots.{length-held}
 use Rattle.holdback.specs.Check.{wrongQueue}
 use Rattle.holdback.specs.Slots.{heldFrames, heldMessages, laid, queueSize}
 use Rattle.matrix.specs.Message.{Message}
-use Rattle.node.proofs.Shared.{RecordPassed, first-met, first-none, queue-laid, record-met, record-past}
+use Rattle.node.proofs.Shared.{RecordPassed, first-met, first-none, queue-laid, record-met, record-passed, record-past}
 use Rattle.node.specs.Answers.{AfterOffer, afterOffer}
 use Rattle.node.specs.Calls.{acceptOffer, offerCall, refusal, refuseOffer}
 use Rattle.node.specs.Checks.{holdRefusal, nodeAt, offerRefusal, recordRefusal}
@@ -25,7 +25,7 @@ use Rattle.node.specs.Record.{brokenRecord, nodeOf}
 use Rattle.protocol.specs.Answer.{Outcome, accepted, refuse}
 use Rattle.protocol.specs.Node.{Node}
 use Rattle.protocol.specs.Offer.{claimsTooMuch, deliverable, deliveredBefore, heldAlready, holding, noRoom, notForMe, offer}
-use Rattle.wire.proofs.Tests.{neqb→ne, or-not, skipped}
+use Rattle.wire.proofs.Tests.{is-false, neqb→ne, or-not, skipped}
 use Rattle.wire.specs.Limits.{maxFrame}
 use Rattle.node.specs.declared.Node.{Node as Record}
 use Rattle.node.specs.declared.OfferAnswer.the-variants as offerAnswer
@@ -133,21 +133,26 @@ offer-leaves r s q q′ ready held p w e =
     let more : held ≡ length (heldMessages (r .held) q ++ (decode s ∷ [])) = omega (arith, length-append (heldMessages (r .held) q) (decode s ∷ []), length-messages (r .held) q) in
     λ z. record { result = record { answer = offerAnswer.Held (more z) (w z); node = record { me = r .me; n = r .n; cap = r .cap; m = r .m; deliv = r .deliv; held = more z } }; queue = p z }
 
--- fewer than sixteen are held where the protocol has room
-hold-space : (d : Node) (m : Message) → holdRefusal d m ≡ 0 → length (d .held) ≤ 16 → length (d .held) < 16
-unfolding holdRefusal
-hold-space d m e h = go (ℕ-discrete (length (d .held)) 16)
-  where
-    go : Dec (length (d .held) ≡ 16) → length (d .held) < 16
-    go (no n) = omega arith
-    go (yes p) =
-        let a = skipped (notForMe d m) 12 _ (omega arith) e in
-        let b = skipped (claimsTooMuch d m) 13 _ (omega arith) (a .1) in
-        let c = skipped (deliveredBefore d m) 14 _ (omega arith) (b .1) in
-        let f = skipped (heldAlready d m) 15 _ (omega arith) (c .1) in
-        let g = skipped (noRoom d m) 16 0 (omega arith) (f .1) in
-        let k = or-not (eqb (length (d .held)) 16) (eqb (length (d .held)) 15 && not (deliverable d m)) (g .0) in
-        absurd (neqb→ne (length (d .held)) 16 (k .0) p)
+-- what a message that the protocol holds passed
+pub record HoldPassed (d : Node) (m : Message) : Type 0 where
+  pub arrives : arrivalRefusal d m ≡ 0
+  pub new : T (not (heldAlready d m))
+  pub room : length (d .held) ≡ 16 → ⊥
+
+pub hold-passed : (d : Node) (m : Message) → holdRefusal d m ≡ 0 → HoldPassed d m
+unfolding arrivalRefusal holdRefusal
+hold-passed d m e =
+    let a = skipped (notForMe d m) 12 _ (omega arith) e in
+    let b = skipped (claimsTooMuch d m) 13 _ (omega arith) (a .1) in
+    let c = skipped (deliveredBefore d m) 14 _ (omega arith) (b .1) in
+    let f = skipped (heldAlready d m) 15 _ (omega arith) (c .1) in
+    let g = skipped (noRoom d m) 16 0 (omega arith) (f .1) in
+    let k = or-not (eqb (length (d .held)) 16) (eqb (length (d .held)) 15 && not (deliverable d m)) (g .0) in
+    record {
+      arrives = rw (is-false (notForMe d m) (a .0), is-false (claimsTooMuch d m) (b .0), is-false (deliveredBefore d m) (c .0));
+      new = f .0;
+      room = neqb→ne (length (d .held)) 16 (k .0);
+    }
 
 -- what holds where an offer is accepted
 pub record Holdable (r : Record) (s q : List ℕ) : Type 0 where
@@ -159,8 +164,31 @@ pub record Holdable (r : Record) (s q : List ℕ) : Type 0 where
 pub holdable : (r : Record) (s q : List ℕ) → RecordPassed r q false → frameRefusal (r .n) (r .cap) s ≡ 0 → holdRefusal (nodeAt r q) (decode s) ≡ 0 → Holdable r s q
 holdable r s q p f h =
     record {
-      room = omega (arith, length-messages (r .held) q, hold-space (nodeAt r q) (decode s) h (rw (length-messages (r .held) q) (p .sound .room)));
+      room = below16 (ℕ-discrete (r .held) 16);
       fits = (passes-kept (r .n) (r .cap) s f) .most;
       queue = queue-laid r q false p;
       size = p .size;
     }
+  where
+    below16 : Dec (r .held ≡ 16) → r .held < 16
+    below16 (yes e) = absurd (hold-passed (nodeAt r q) (decode s) h .room (length-messages (r .held) q ∙ e))
+    below16 (no e) = omega (arith, p .sound .room)
+
+-- what an offer that is not refused passed
+pub record Offerable (r : Record) (s q : List ℕ) : Type 0 where
+  pub frame : frameRefusal (r .n) (r .cap) s ≡ 0
+  pub hold : HoldPassed (nodeAt r q) (decode s)
+  pub holdable : Holdable r s q
+
+pub offerable : (r : Record) (s q : List ℕ) → offerRefusal r s q ≡ 0 → Offerable r s q
+unfolding offerRefusal
+offerable r s q e = go (ℕ-discrete (frameRefusal (r .n) (r .cap) s) 0)
+  where
+    p : RecordPassed r q false
+    p = record-passed r q false _ e
+
+    go : Dec (frameRefusal (r .n) (r .cap) s ≡ 0) → Offerable r s q
+    go (yes z) =
+        let h : holdRefusal (nodeAt r q) (decode s) ≡ 0 = sym (offer-hold r s q p z) ∙ e in
+        record { frame = z; hold = hold-passed (nodeAt r q) (decode s) h; holdable = holdable r s q p z h }
+    go (no z) = absurd (z (offer-frame r s q p (frameRefusal (r .n) (r .cap) s) refl z ∙ e))

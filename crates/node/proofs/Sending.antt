@@ -30,7 +30,7 @@ use Rattle.protocol.specs.Send.{badDestination, longBody, send, sending}
 use Rattle.protocol.specs.Trim.{Trimmed, trimFor}
 use Rattle.protocol.specs.World.{start}
 use Rattle.rules.proofs.Facts.{Unbroken, limit-row, unbroken}
-use Rattle.wire.proofs.Tests.{is-false, not-not, or-not, skipped}
+use Rattle.wire.proofs.Tests.{is-false, neqb→ne, not-not, or-not, skipped}
 use Rattle.wire.specs.Bytes.{put}
 use Rattle.wire.specs.Limits.{maxBody, maxCount}
 use Rattle.node.specs.declared.Node.{Node as Record}
@@ -121,6 +121,7 @@ module _ (r : Record) (to body out : ℕ) where
 pub record Sendable (r : Record) (to body out : ℕ) : Type 0 where
   pub sound : Unbroken (r .me) (r .n) (r .cap) (entry (r .m)) (vector (r .deliv)) (r .held)
   pub long : outSize ≤ out
+  pub other : to ≡ r .me → ⊥
   pub destination : to < r .n
   pub short : body ≤ maxBody
   pub below : (y : ℕ) → y < 12 → entry (r .m) (r .me) y < maxCount
@@ -138,6 +139,7 @@ sendable r to body out e =
     record {
       sound = sound;
       long = nltb→le out outSize (q .0);
+      other = neqb→ne to (r .me) (d .0);
       destination = ltb→lt to (r .n) (not-not (ltb to (r .n)) (d .1));
       short = nltb→le maxBody body (u .0);
       below = limit-row (nodeOf r []) (s .0) (sound .limit);

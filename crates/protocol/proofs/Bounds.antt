@@ -4,7 +4,7 @@ use mathlib.Core.Bool.{not}
 use mathlib.Core.Path.{_≡_, refl, sym, subst}
 use native.Mathlib.Decide.{ℕ-discrete, decLe}
 use native.Mathlib.Omega.{arith}
-use lib.Dec.{T, eqb}
+use lib.Dec.{T, eqb, ltb}
 use lib.ListN.{length}
 use Rattle.matrix.specs.Message.{extra, InRange, SoundEntry, Sound}
 use Rattle.protocol.proofs.Below.{none-some}
@@ -12,8 +12,9 @@ use Rattle.protocol.proofs.Good.{stateOf, SoundIssue, Good}
 use Rattle.protocol.proofs.Grown.{nodeAt}
 use Rattle.protocol.proofs.State.{State, At, IssuedAs, Invariant}
 use Rattle.protocol.specs.Node.{someBelow, atLimit}
+use Rattle.protocol.specs.Offer.{claimsTooMuch}
 use Rattle.protocol.specs.World.{Issue, World, IssueAt}
-use Rattle.wire.proofs.Tests.{ne→neqb, not-or}
+use Rattle.wire.proofs.Tests.{le→nltb, ne→neqb, not-or}
 use Rattle.wire.specs.Bytes.{AllBytes}
 use Rattle.wire.specs.Limits.{maxCount}
 
@@ -38,6 +39,11 @@ matrix-bound w v i x y = go (w .matrix i x y) refl
     go : (k : ℕ) → w .matrix i x y ≡ k → w .matrix i x y ≤ w .matrix x x y
     go zero e = omega arith
     go (suc k) e = omega (arith, issued-bound w v x y (suc k) (v .kept i x y k e))
+
+-- an issued message claims no more of a node's row than stands there: refusal 13 is never met
+pub claims-little : (n : ℕ) (caps : ℕ → ℕ) (w : World) → Good n caps w → (p : ℕ) (f : Issue) → IssueAt w p f → (i : ℕ) → T (not (claimsTooMuch (nodeAt n caps w i) (f .message)))
+claims-little n caps w g p f at i =
+    none-some 12 (λ y. ltb (w .nodes i .matrix i y) (f .message .entries i y)) (λ y _. le→nltb (w .nodes i .matrix i y) (f .message .entries i y) (entry-bound (stateOf w) (g .invariant) p f at i y))
 
 module _ (n : ℕ) (caps : ℕ → ℕ) (w : World) (g : Good n caps w) (few : length (w .history) < 1000000000) where
   -- no entry of a node's own row comes to the limit

@@ -8,12 +8,11 @@ use mathlib.Core.Option.{Option, none, some}
 use mathlib.Core.Path.{_≡_, refl, sym, ap, subst, _∙_}
 use native.Mathlib.Decide.{ℕ-discrete, decLe}
 use native.Mathlib.Omega.{arith}
-use lib.Dec.{T, ltb, eqb, T-not, not-T, eqb→eq, eqb-refl}
+use lib.Dec.{T, eqb, T-not, not-T, eqb→eq, eqb-refl}
 use lib.ListN.{length, getElem?}
 use Rattle.matrix.specs.Message.{Message, number}
-use Rattle.protocol.proofs.Below.{none-some}
-use Rattle.protocol.proofs.Bounds.{entry-bound, below-limit}
-use Rattle.protocol.proofs.Good.{stateOf, Origin, SoundNode, Kept, Good}
+use Rattle.protocol.proofs.Bounds.{below-limit, claims-little}
+use Rattle.protocol.proofs.Good.{Origin, SoundNode, Kept, Good}
 use Rattle.protocol.proofs.Grown.{nodeAt, node-eq}
 use Rattle.protocol.proofs.Offering.{le-deliverable}
 use Rattle.protocol.proofs.Searching.{search-found, search-absent}
@@ -23,7 +22,7 @@ use Rattle.protocol.specs.Demand3.{Delivered, Held, heldAt, QueueAgrees,
 use Rattle.protocol.specs.Node.{Node, atLimit}
 use Rattle.protocol.specs.Offer.{deliverable, notForMe, claimsTooMuch, deliveredBefore, sameOrigin, someSameOrigin, heldAlready, noRoom, holding, offer}
 use Rattle.protocol.specs.World.{Issue, World, IssueAt}
-use Rattle.wire.proofs.Tests.{cond-no, ne→neqb, lt→nleb, le→nltb, and-T, or-T, not-or}
+use Rattle.wire.proofs.Tests.{T-not-not, and-T, cond-no, lt→nleb, ne→neqb, not-or, or-T}
 use Rattle.wire.specs.Limits.{maxHeld}
 
 module _ (n : ℕ) (caps : ℕ → ℕ) (w : World) (g : Good n caps w) where
@@ -177,15 +176,11 @@ module _ (n : ℕ) (caps : ℕ → ℕ) (w : World) (g : Good n caps w) where
           subst (λ (z : Node). accepted ((offer z (f .message)) .answer) ≡ true) (sym (node-eq n caps w g i hi))
           (ap (λ (z : Outcome). accepted (z .answer))
           (cond-no (notForMe d (f .message)) (refuse 12 d) t₂ (T-not-not (eqb i i) (eqb-refl i))
-          ∙ cond-no (claimsTooMuch d (f .message)) (refuse 13 d) t₃ (none-some 12 (λ y. ltb (w .nodes i .matrix i y) (f .message .entries i y)) (λ y h. le→nltb (w .nodes i .matrix i y) (f .message .entries i y) (entry-bound (stateOf w) (g .invariant) p f at i y)))
+          ∙ cond-no (claimsTooMuch d (f .message)) (refuse 13 d) t₃ (claims-little n caps w g p f at i)
           ∙ cond-no (deliveredBefore d (f .message)) (refuse 14 d) t₄ (lt→nleb (number (f .message)) (w .nodes i .deliv (f .message .from)) above)
           ∙ cond-no (heldAlready d (f .message)) (refuse 15 d) t₅ (not-T (heldAlready d (f .message)) (λ t. free (held-already (w .nodes i .held) t same-held)))
           ∙ cond-no (noRoom d (f .message)) (refuse 16 d) (holding d (f .message)) has-room))
         where
-          T-not-not : (b : Bool) → T b → T (not (not b))
-          T-not-not true t = tt
-          T-not-not false t = absurd t
-
           t₅ : Outcome
           t₅ = cond (noRoom d (f .message)) (refuse 16 d) (holding d (f .message))
 

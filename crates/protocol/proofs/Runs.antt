@@ -65,7 +65,7 @@ run-length n w [] = omega arith
 run-length n w (s ∷ l) = omega (arith, run-length n (step n w s) l, step-longer n w s)
 
 -- a zero matrix has no entries
-count-zero : count (λ x y. 0) ≡ 0
+pub count-zero : count (λ x y. 0) ≡ 0
 unfolding count columnCount
 count-zero = refl
 

@@ -9,6 +9,7 @@ use native.Mathlib.Omega.{arith}
 use lib.Dec.{T, leb, leb→le, le→leb, nleb→lt}
 use lib.ListN.{length}
 use Rattle.matrix.proofs.Columns.{MatrixRules, fullest-lt, fullest-two, two-below, two-other, clear-rules, clear-one, clear-same, crowded, crowded-le, crowded-down, crowded-some}
+use Rattle.matrix.proofs.Cleared.{clear-lower, clear-row}
 use Rattle.matrix.proofs.Matrix.{clear-mine, clear-keep}
 use Rattle.matrix.specs.Matrix.{Matrix, columnCount, count, fullest, clear}
 use Rattle.matrix.specs.Message.{Message, extraMessage}
@@ -100,6 +101,15 @@ rounds-row n cap me m extras m′ hi hn (round _ _ o l hl ne two _ r) y = go (�
         let q′ : clear me l m me y ≡ suc (m me y) = rw e (clear-mine me l m) in
         (omega arith, λ c. let c′ : columnCount m l ≤ 1 = rw e at c in absurd (omega arith))
     go (no e) h = let q : clear me l m me y ≡ m me y = clear-keep me l m me y e in (rw q at (h .0), λ c. h .1 (rw (clear-same me l m y e) c) ∙ q)
+
+-- the row of me does not go down, and no other goes up
+pub rounds-grows : (n cap me : ℕ) (m : Matrix) (extras : List Message) (m′ : Matrix) → Rounds n cap me m extras m′ → (y : ℕ) → m me y ≤ m′ me y
+rounds-grows n cap me m extras m′ (done _) y = omega arith
+rounds-grows n cap me m extras m′ (round _ _ o l hl ne two _ r) y = omega (arith, clear-row me l m y, rounds-grows n cap me (clear me l m) o m′ r y)
+
+pub rounds-lower : (n cap me : ℕ) (m : Matrix) (extras : List Message) (m′ : Matrix) → Rounds n cap me m extras m′ → (x y : ℕ) → x ≢ me → m′ x y ≤ m x y
+rounds-lower n cap me m extras m′ (done _) x y h = omega arith
+rounds-lower n cap me m extras m′ (round _ _ o l hl ne two _ r) x y h = omega (arith, clear-lower me l m x y h, rounds-lower n cap me (clear me l m) o m′ r x y h)
 
 -- at most one message is issued in a round
 pub trim-few : (k me n cap : ℕ) (m : Matrix) → length (trimFor k me n cap m .extras) ≤ k

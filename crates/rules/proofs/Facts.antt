@@ -148,3 +148,10 @@ limit-row d t h y l =
     let q = neqb→ne (d .matrix (d .me) y) maxCount (some-none 12 (λ y. eqb (d .matrix (d .me) y) maxCount) (p .0) y l) in
     let r = h (d .me) y in
     omega arith
+
+pub limit-vector : (d : Node) → T (not (atLimit d)) → (x : ℕ) → x < 12 → d .deliv x ≤ maxCount → d .deliv x < maxCount
+unfolding atLimit
+limit-vector d t x l h =
+    let p = or-not (someBelow 12 (λ y. eqb (d .matrix (d .me) y) maxCount)) (someBelow 12 (λ x. eqb (d .deliv x) maxCount)) t in
+    let q = neqb→ne (d .deliv x) maxCount (some-none 12 (λ x. eqb (d .deliv x) maxCount) (p .1) x l) in
+    omega arith

@@ -74,6 +74,12 @@ pub or-T : (a b : Bool) → T (a || b) → T a ⊎ T b
 or-T true b t = inl tt
 or-T false b t = inr t
 
+-- and back
+pub either-T : (a b : Bool) → T a ⊎ T b → T (a || b)
+either-T true b t = tt
+either-T false b (inl t) = absurd t
+either-T false b (inr t) = t
+
 pub or-not : (a b : Bool) → T (not (a || b)) → T (not a) × T (not b)
 or-not true b t = absurd t
 or-not false b t = (tt, t)
