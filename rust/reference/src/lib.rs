@@ -6,6 +6,7 @@
 
 pub mod boundary;
 pub mod draft;
+pub mod event;
 pub mod frame;
 pub mod history;
 pub mod list;

@@ -1,8 +1,10 @@
 //! The yard: a program that runs a list of steps from lines of text.
 
+use crate::event::Event;
 use crate::frame::EXTRA;
 use crate::list::List;
 use crate::{DeliverAnswer, OfferAnswer, Refusal, SendAnswer};
+use std::fmt::{self, Display, Formatter};
 
 /// The input has at most this many bytes.
 pub const INPUT: usize = 4096;
@@ -30,9 +32,16 @@ impl Tally {
     }
 }
 
+impl Display for Tally {
+    fn fmt(&self, f: &mut Formatter<'_>) -> fmt::Result {
+        let Tally { users, extras, delivered, delays, share } = self;
+        write!(f, "T {users} {extras} {delivered} {delays} {share}")
+    }
+}
+
 /// A line of the yard after the first.
 #[derive(Clone, Copy, Debug, PartialEq, Eq)]
-enum Step {
+pub enum Step {
     /// `S i j`: send, empty body.
     Send(usize, usize),
     /// `A m`: offer issue m, counted from 1, at its destination.
@@ -41,94 +50,117 @@ enum Step {
     Deliver(usize),
 }
 
-/// What the program prints for this input.
-pub fn yard(input: &[u8]) -> Vec<u8> {
-    match start(input) {
-        Some((list, rest)) => run(list, rest),
-        None => b"R 17\n".to_vec(),
+/// A line after the first: its bytes without the line feed, what it asks for (nothing if it is another line), and
+/// what it did.
+#[derive(Clone, Debug, PartialEq, Eq)]
+pub struct Line<'a> {
+    pub text: &'a [u8],
+    pub step: Option<Step>,
+    pub events: Vec<Event>,
+}
+
+/// A whole run: the first line's numbers, what each line after it did, and the tally.
+#[derive(Clone, Debug, PartialEq, Eq)]
+pub struct Run<'a> {
+    pub n: usize,
+    pub cap: usize,
+    pub lines: Vec<Line<'a>>,
+    pub tally: Tally,
+}
+
+/// Prints a line for each event, then the tally.
+impl Display for Run<'_> {
+    fn fmt(&self, f: &mut Formatter<'_>) -> fmt::Result {
+        let events = self.lines.iter().flat_map(|line| &line.events);
+        for event in events {
+            writeln!(f, "{event}")?;
+        }
+        writeln!(f, "{}", self.tally)
     }
 }
 
-/// The list that the first line asks for, and the input after that line.
-fn start(input: &[u8]) -> Option<(List, &[u8])> {
+/// What the program prints for this input.
+pub fn yard(input: &[u8]) -> Vec<u8> {
+    run(input).map_or_else(|| b"R 17\n".to_vec(), |run| run.to_string().into_bytes())
+}
+
+/// Runs an input; nothing for one that prints `R 17` alone.
+pub fn run(input: &[u8]) -> Option<Run<'_>> {
+    let (n, cap, rest) = start(input)?;
+    let mut list = List::start(n, cap).ok()?;
+    let mut tally = Tally::default();
+    let lines = rest.split_inclusive(|byte| *byte == b'\n').map(|line| run_line(&mut list, line, &mut tally)).collect();
+    Some(Run { n, cap, lines, tally })
+}
+
+/// The n and cap of the first line, and the input after that line.
+fn start(input: &[u8]) -> Option<(usize, usize, &[u8])> {
     if input.len() > INPUT {
         return None;
     }
     let end = input.iter().position(|byte| *byte == b'\n')?;
     let (n, cap) = read_first(&input[..end])?;
-    let list = List::start(n, cap).ok()?;
-    NODES.contains(&n).then_some((list, &input[end + 1..]))
-}
-
-/// Runs the lines, then prints the tally.
-fn run(mut list: List, rest: &[u8]) -> Vec<u8> {
-    let mut printed = String::new();
-    let mut tally = Tally::default();
-    for line in rest.split_inclusive(|byte| *byte == b'\n') {
-        if let Err(number) = run_line(&mut list, line, &mut tally, &mut printed) {
-            print(&mut printed, 'R', &[number as usize]);
-        }
-    }
-    let Tally { users, extras, delivered, delays, share } = tally;
-    print(&mut printed, 'T', &[users, extras, delivered, delays, share]);
-    printed.into_bytes()
+    NODES.contains(&n).then_some((n, cap, &input[end + 1..]))
 }
 
 /// Runs one line; 17 is given for another line, such as bytes after the last line feed.
-fn run_line(list: &mut List, line: &[u8], tally: &mut Tally, printed: &mut String) -> Result<(), Refusal> {
-    let line = line.strip_suffix(b"\n").ok_or(17)?;
-    match read_step(line).ok_or(17)? {
-        Step::Send(i, j) => send(list, i, j, tally, printed),
-        Step::Offer(m) => offer(list, m, printed),
-        Step::Deliver(j) => deliver(list, j, tally, printed),
+fn run_line<'a>(list: &mut List, line: &'a [u8], tally: &mut Tally) -> Line<'a> {
+    let ended = line.strip_suffix(b"\n");
+    let step = ended.and_then(read_step);
+    let events = step.ok_or(17).and_then(|step| run_step(list, step, tally));
+    let events = events.unwrap_or_else(|number| vec![Event::Refused(number)]);
+    Line { text: ended.unwrap_or(line), step, events }
+}
+
+/// Runs one step.
+fn run_step(list: &mut List, step: Step, tally: &mut Tally) -> Result<Vec<Event>, Refusal> {
+    match step {
+        Step::Send(i, j) => send(list, i, j, tally),
+        Step::Offer(m) => offer(list, m),
+        Step::Deliver(j) => deliver(list, j, tally),
     }
 }
 
-/// Prints S for the user frame and X for each extra.
-fn send(list: &mut List, i: usize, j: usize, tally: &mut Tally, printed: &mut String) -> Result<(), Refusal> {
+/// The user frame, then each extra.
+fn send(list: &mut List, i: usize, j: usize, tally: &mut Tally) -> Result<Vec<Event>, Refusal> {
     may_issue(list, i)?;
     let before = list.issued.len();
     match list.send(i, j, &[]) {
         SendAnswer::Refused(number) => Err(number),
         SendAnswer::Sent { extras, .. } => {
             tally.count_issued(1, extras);
-            print_issued(list, before, printed);
-            Ok(())
+            Ok(issued_since(list, before).collect())
         }
     }
 }
 
-/// Prints A, issue, frames now held there.
-fn offer(list: &mut List, m: usize, printed: &mut String) -> Result<(), Refusal> {
+/// The issue and the frames now held there.
+fn offer(list: &mut List, m: usize) -> Result<Vec<Event>, Refusal> {
     let issue = m.checked_sub(1).filter(|issue| *issue < list.issued.len()).ok_or(17)?;
     match list.offer(list.frame(issue).to(), issue) {
         OfferAnswer::Refused(number) => Err(number),
-        OfferAnswer::Held { held, .. } => {
-            print(printed, 'A', &[m, held]);
-            Ok(())
-        }
+        OfferAnswer::Held { held, .. } => Ok(vec![Event::Held { issue: m, held }]),
     }
 }
 
-/// Prints D, node, issue, looked, with any X lines after it, or N, node, looked.
-fn deliver(list: &mut List, node: usize, tally: &mut Tally, printed: &mut String) -> Result<(), Refusal> {
+/// The delivery with any extras after it, or none.
+fn deliver(list: &mut List, node: usize, tally: &mut Tally) -> Result<Vec<Event>, Refusal> {
     may_issue(list, node)?;
     let before = list.issued.len();
     match list.deliver(node).0 {
-        DeliverAnswer::Refused(number) => return Err(number),
+        DeliverAnswer::Refused(number) => Err(number),
         DeliverAnswer::None { looked } => {
             tally.delays += 1;
-            print(printed, 'N', &[node, looked]);
+            Ok(vec![Event::None { node, looked }])
         }
         DeliverAnswer::Delivered(delivery) => {
             tally.delivered += 1;
             tally.count_issued(0, delivery.extras);
-            let issue = list.find(delivery.from, node, delivery.number).ok_or(17)?;
-            print(printed, 'D', &[node, issue + 1, delivery.looked]);
-            print_issued(list, before, printed);
+            let issue = list.find(delivery.from, node, delivery.number).ok_or(17)? + 1;
+            let delivered = Event::Delivered { node, issue, looked: delivery.looked };
+            Ok(std::iter::once(delivered).chain(issued_since(list, before)).collect())
         }
     }
-    Ok(())
 }
 
 /// 17 for a node not below n, and for S or D with fewer than n of 64 issues left.
@@ -138,22 +170,18 @@ fn may_issue(list: &List, node: usize) -> Result<(), Refusal> {
     (known && room).then_some(()).ok_or(17)
 }
 
-/// Prints per frame issued S or X (extra), issue, from, to, e.
-fn print_issued(list: &List, before: usize, printed: &mut String) {
-    for issue in before..list.issued.len() {
+/// The frames issued from here on.
+fn issued_since(list: &List, before: usize) -> impl Iterator<Item = Event> + '_ {
+    (before..list.issued.len()).map(|issue| {
         let frame = list.frame(issue);
-        let letter = if frame.kind() == EXTRA { 'X' } else { 'S' };
-        print(printed, letter, &[issue + 1, frame.from(), frame.to(), frame.entry_count()]);
-    }
-}
-
-/// Prints a letter and numbers parted by one space, ended by a line feed.
-fn print(printed: &mut String, letter: char, numbers: &[usize]) {
-    printed.push(letter);
-    for number in numbers {
-        printed.push_str(&format!(" {number}"));
-    }
-    printed.push('\n');
+        Event::Issued {
+            extra: frame.kind() == EXTRA,
+            issue: issue + 1,
+            from: frame.from(),
+            to: frame.to(),
+            entries: frame.entry_count(),
+        }
+    })
 }
 
 /// First line: n and cap.
