@@ -1,6 +1,7 @@
 //! The proved node beside the second implementation, call by call: answer, record and every byte of every buffer.
 #![forbid(unsafe_code)]
 
+pub mod arguments;
 pub mod crafted;
 pub mod difference;
 pub mod hostile;

@@ -1,37 +1,42 @@
 //! Compares the proved node with the reference: `compare CALLS SEED [YARD]`.
 //!
 //! CALLS generated and crafted calls from the seed, then a hostile list for each thousand calls. YARD is the path of
-//! the compiled yard; without it yard inputs are left out.
+//! the compiled yard; without it yard inputs are left out. A bad argument is refused with the usage line.
 
+use differential::arguments::{Arguments, USAGE};
 use differential::hostile::hostile;
 use differential::lists::Totals;
 use differential::run::{Cases, Tally};
 use reference::random::Random;
 use std::fmt::Display;
-use std::path::PathBuf;
+use std::path::Path;
 use std::time::Instant;
 
 /// Steps of a list.
 const STEPS: usize = 400;
 
 fn main() {
-    let mut arguments = std::env::args().skip(1);
-    let mut number = |name: &str, usual: usize| match arguments.next() {
-        None => usual,
-        Some(text) => text.parse().unwrap_or_else(|_| panic!("{name} is a number: {text}")),
-    };
-    let (calls, seed) = (number("CALLS", 1_000_000), number("SEED", 1) as u64);
-    let yard = std::env::args().nth(3).map(PathBuf::from);
+    let arguments = Arguments::read(std::env::args_os().skip(1)).unwrap_or_else(|message| {
+        eprintln!("compare: {message}\n{USAGE}");
+        std::process::exit(2);
+    });
+    let Arguments { calls, seed, yard } = arguments;
     println!(
         "seed {seed}, {calls} calls, yard {}",
         yard.as_ref().map_or("left out".into(), |path| path.display().to_string())
     );
     let start = Instant::now();
+    run_calls(calls, seed, yard.as_deref(), start);
+    run_lists(calls / 1000, seed, start);
+}
+
+/// Generated and crafted calls, and yard inputs if there is a yard.
+fn run_calls(calls: usize, seed: u64, yard: Option<&Path>, start: Instant) {
     let mut cases = Cases::new(seed);
     let mut tally = Tally::default();
     for index in 0..calls {
         let case = cases.case();
-        if let Err(difference) = tally.add(&case, yard.as_deref()) {
+        if let Err(difference) = tally.add(&case, yard) {
             stop(&difference, &format!("call {} of seed {seed}: compare {} {seed}", index + 1, index + 1));
         }
         progress("calls", index + 1, calls, start);
@@ -41,7 +46,6 @@ fn main() {
         println!("{} yard inputs left out: no program named", tally.yards_left_out);
     }
     println!("{} calls, {} yard inputs compared, no difference", tally.calls, tally.yards);
-    run_lists(calls / 1000, seed, start);
 }
 
 /// Hostile lists, each from a seed of its own.
