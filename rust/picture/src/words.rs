@@ -1,0 +1,48 @@
+//! The run, its frames and its marks in words, for titles and for readers that do not see the picture.
+
+use crate::story::{Frame, Held, Mark, Sign};
+use crate::texts::name;
+use reference::yard::{Run, Tally};
+
+/// The run in one line.
+pub fn summary(run: &Run) -> String {
+    let Tally { users, extras, delivered, delays, .. } = run.tally;
+    let frames = format!("{}, {}", count(users, "user frame"), count(extras, "extra frame"));
+    let end = format!("{delivered} delivered, {}", count(delays, "wait"));
+    format!("{} nodes, cap {}, {}: {frames}, {end}", run.n, run.cap, count(run.lines.len(), "step"))
+}
+
+/// A frame and what became of it.
+pub fn frame(frame: &Frame, names: &[String]) -> String {
+    let Frame { issue, from, to, step, .. } = frame;
+    let kind = if frame.extra { "extra frame" } else { "user frame" };
+    let entries = if frame.entries == 1 { "1 entry".to_string() } else { format!("{} entries", frame.entries) };
+    let parties = format!("{} to {}", name(names, *from), name(names, *to));
+    format!("issue {issue}, {kind}, {parties}, {entries}: issued at step {}, {}", step + 1, fate(frame.held))
+}
+
+/// What became of a frame after its issue.
+fn fate(held: Option<Held>) -> String {
+    match held {
+        None => "never held".to_string(),
+        Some(Held { from, until: None, .. }) => format!("held from step {} to the end", from + 1),
+        Some(Held { from, until: Some(until), .. }) => {
+            format!("held from step {}, delivered at step {}", from + 1, until + 1)
+        }
+    }
+}
+
+/// A wait or a refusal; a refused line may belong to no node.
+pub fn mark(mark: &Mark, names: &[String]) -> String {
+    let step = mark.step + 1;
+    let at = mark.node.map_or(String::new(), |node| format!(" at {}", name(names, node)));
+    match mark.sign {
+        Sign::Wait => format!("step {step}{at}: wait, no held frame is deliverable"),
+        Sign::Refused(number) => format!("step {step}{at}: refused, {number}"),
+    }
+}
+
+/// A number of things.
+fn count(number: usize, thing: &str) -> String {
+    format!("{number} {thing}{}", if number == 1 { "" } else { "s" })
+}
