@@ -1,4 +1,4 @@
--- To believe, all: demand 3 (itself over `node`'s calls and `frame`'s frames), its last part for each destination, and which refusals a list can meet.
+-- To believe, all: demand 3 (over the calls of `node`, whose definitions must be read first), its last part for each destination, and the refusals of a list.
 pub mod Demand3
 pub mod EachDestination
 pub mod ListRefusals

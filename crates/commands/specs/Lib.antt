@@ -1,3 +1,3 @@
--- What a reader must believe of `commands`: the commands of the yard's lines, and its first line.
+-- To believe, for the yard, all: the commands of its lines, and its first line.
 pub mod Commands
 pub mod FirstLine

@@ -1,2 +1,2 @@
--- What a reader must believe of `counters`: how each step changes them.
+-- To believe, for the yard: how each step changes the counters.
 pub mod Counted

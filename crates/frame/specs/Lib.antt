@@ -1,4 +1,5 @@
--- What a reader must believe of `frame`, in the order of document 01's section on the frame: the header, the entries, the whole frame, frames end to end, the refusals 8 to 11, and the round trip.
+-- To believe, all, in the order of document 01's section on the frame: the header, the entries, the whole frame, frames end to end,
+-- the refusals 8 to 11, and the round trip.
 pub mod Header
 pub mod Entries
 pub mod Frame

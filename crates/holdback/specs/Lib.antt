@@ -1,4 +1,5 @@
--- What a reader must believe of `holdback`: the hold-back queue (document 01: the shelf) as bytes, places in it, and check 4 with its steps.
+-- To believe: Slots, the hold-back queue (document 01: the shelf) as bytes, and Check, check 4.
+-- Vocabulary of inner contracts: Places, Checked, what a function asks of a queue, and Steps, the steps of check 4.
 pub mod Slots
 pub mod Places
 pub mod Check

@@ -1,4 +1,4 @@
--- What a reader must believe of `matrix`: the matrix as a function of row and column, its array, and the message.
+-- To believe, all: the matrix as a function of row and column, its array, and the message.
 pub mod Matrix
 pub mod Array
 pub mod Message

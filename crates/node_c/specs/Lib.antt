@@ -1,3 +1,3 @@
--- What a reader must believe of `node_c`: the image of a record, and what each exported call leaves for its caller.
+-- To believe, all: the image of a record, and what each exported call leaves for its caller.
 pub mod Image
 pub mod Exports

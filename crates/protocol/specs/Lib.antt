@@ -1,4 +1,5 @@
--- What a reader must believe of `protocol`, in document 01's order: the node and its steps, a list of steps, happened before, and demand 3.
+-- To believe, in document 01's order: Node (not `fresh`), Answer, Trim, Send, Offer, Deliver, the steps on messages; of World `put` alone.
+-- The rest of World, Order and Demand3 are lists and demand 3 on messages, a step of the proof: the promise is demand 3 on bytes, in `causality`.
 pub mod Node
 pub mod Answer
 pub mod Trim

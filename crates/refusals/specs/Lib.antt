@@ -1,3 +1,3 @@
--- What a reader must believe of `refusals`: demand 1, and the ◆ table.
+-- To believe, all: demand 1, and the ◆ table.
 pub mod Demand1
 pub mod Table

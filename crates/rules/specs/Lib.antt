@@ -1,2 +1,2 @@
--- What a reader must believe of `rules`: the record rules (checks 1 and 2). Check 5 is `atLimit` of the protocol.
+-- To believe, all: the record rules (checks 1 and 2). Check 5 is `atLimit` of the protocol.
 pub mod Rules

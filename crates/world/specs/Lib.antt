@@ -1,3 +1,4 @@
--- What a reader must believe of `world`: the steps of a simulation on the world of a list, and how that world is stored.
+-- To believe, for the yard: Steps, its steps on the world of a list; of Stored `startable` and what it uses (`maxSimulated`, `isReady`, `capTaken`).
+-- Vocabulary of inner contracts: the rest of Stored, how that world is stored.
 pub mod Steps
 pub mod Stored
