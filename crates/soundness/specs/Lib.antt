@@ -1,2 +1,2 @@
--- What a reader must believe of `soundness`: that every call hands back a record and a queue that the next call takes.
+-- To believe, all: that every call hands back a record and a queue that the next call takes.
 pub mod HandedBack
