@@ -8,7 +8,7 @@ use borrow.Author.Tests.{eq-eqb, le-leb, lt-leb, ne-eqb}
 use lib.Dec.{eqb, eqb→eq, ltb, nleb→lt, nltb→le}
 use Rattle.arrival.proofs.Sound.{readable}
 use Rattle.arrival.proofs.Walks.{claims-walk, everyEntry, ready-walk, someEntry}
-use Rattle.arrival.specs.Checked.{Checked}
+use Rattle.arrival.specs.CheckedFrame.{CheckedFrame}
 use Rattle.arrival.specs.Tests.{exceeds, ready, standsAt}
 use Rattle.arrival.specs.View.{arrivalRefusal, nodeWith}
 use Rattle.frame.proofs.Checks.{entries-done, entries-rest}
@@ -26,7 +26,7 @@ use Rattle.protocol.specs.Offer.{claimsTooMuch, deliverable, deliveredBefore, n
 use Rattle.wire.proofs.Tests.{is-false, le→nltb, not-not, skipped}
 
 -- deliverability: every entry is ready
-pub deliverable-walk : (s : List ℕ) (h : Header) (me : ℕ) (deliv : List ℕ) → Checked s → h ≡ header s → (n cap : ℕ) (m : List ℕ) (held : List Message)
+pub deliverable-walk : (s : List ℕ) (h : Header) (me : ℕ) (deliv : List ℕ) → CheckedFrame s → h ≡ header s → (n cap : ℕ) (m : List ℕ) (held : List Message)
     → deliverable (nodeWith me n cap m deliv held) (decode s) ≡ everyEntry (ready me (vector deliv)) (entriesFrom s 0 (h .e))
 unfolding deliverable decode
 deliverable-walk s h me deliv c e n cap m held =
@@ -34,7 +34,7 @@ deliverable-walk s h me deliv c e n cap m held =
     rw (← e) (ready-walk me (vector deliv) (entriesFrom s 0 (h .e)) (r .inside) (r .ordered))
 
 -- 13: some entry exceeds the matrix
-pub claims-entries : (s : List ℕ) (h : Header) (me : ℕ) (m : List ℕ) → Checked s → h ≡ header s → (n cap : ℕ) (deliv : List ℕ) (held : List Message)
+pub claims-entries : (s : List ℕ) (h : Header) (me : ℕ) (m : List ℕ) → CheckedFrame s → h ≡ header s → (n cap : ℕ) (deliv : List ℕ) (held : List Message)
     → claimsTooMuch (nodeWith me n cap m deliv held) (decode s) ≡ someEntry (exceeds me (entry m)) (entriesFrom s 0 (h .e))
 unfolding decode
 claims-entries s h me m c e n cap deliv held =

@@ -9,7 +9,7 @@ use borrow.Author.Tests.{ne-eqb}
 use lib.Dec.{eqb}
 use lib.ListN.{length}
 use Rattle.arrival.proofs.Sound.{readable}
-use Rattle.arrival.specs.Checked.{Checked}
+use Rattle.arrival.specs.CheckedFrame.{CheckedFrame}
 use Rattle.frame.proofs.Checks.{entries-done, entries-rest}
 use Rattle.frame.proofs.Lookup.{Ordered, look-before, look-hit, look-miss, look-none, ordered-down, place}
 use Rattle.frame.specs.Entries.{entriesFrom, entryAt, matrixOf}
@@ -74,7 +74,7 @@ pub record Merging (s : List ℕ) (j e : ℕ) (m₀ m : List ℕ) (k : ℕ) : Ty
   pub ordered : Ordered 0 (entriesFrom s k (e - k))
   pub whole : flat (merge j (entry m) (matrixOf (entriesFrom s k (e - k)))) ≡ flat (merge j (entry m₀) (matrixOf (entriesFrom s 0 e)))
 
-pub merging-start : (s : List ℕ) (j : ℕ) (h : Header) (m : List ℕ) → Checked s → h ≡ header s → length m ≡ 144 → Merging s j (h .e) m m 0
+pub merging-start : (s : List ℕ) (j : ℕ) (h : Header) (m : List ℕ) → CheckedFrame s → h ≡ header s → length m ≡ 144 → Merging s j (h .e) m m 0
 merging-start s j h m c e l =
     record { turns = omega arith; cells = l; ordered = rw sub-zero (readable s h c e .ordered); whole = rw sub-zero refl }
 

@@ -5,7 +5,7 @@ use mathlib.Core.Path.{_≡_, refl}
 use native.Mathlib.Nat.{add-zero, zero-add}
 use native.Mathlib.Omega.{arith}
 use lib.ListN.{length}
-use Rattle.arrival.specs.Checked.{Checked}
+use Rattle.arrival.specs.CheckedFrame.{CheckedFrame}
 use Rattle.frame.proofs.Lookup.{Each, Ordered, Stands, each-map}
 use Rattle.frame.proofs.Passed.{EntryKept, passes-kept}
 use Rattle.frame.proofs.Rising.{each-kept, rising-ordered}
@@ -36,7 +36,7 @@ inside-kept n h p a k = record { row = omega (arith, k .row); column = omega (ar
 stands-kept : (n : ℕ) (h : Header) → n ≤ 12 → (a : Entry) → EntryKept n h a → Stands 0 a
 stands-kept n h p a k = record { column = omega (arith, k .column); value = λ e. omega (arith, k .least); from = omega arith }
 
-pub readable : (s : List ℕ) (h : Header) → Checked s → h ≡ header s → Readable s h
+pub readable : (s : List ℕ) (h : Header) → CheckedFrame s → h ≡ header s → Readable s h
 readable s h c e =
     let k = passes-kept (c .n) (c .cap) s (c .passes) in
     let l = entriesFrom s 0 (header s .e) in
@@ -51,13 +51,13 @@ readable s h c e =
     }
 
 -- its header can be read, and each of its entries
-pub header-room : (s : List ℕ) → Checked s → 8 ≤ length s
+pub header-room : (s : List ℕ) → CheckedFrame s → 8 ≤ length s
 header-room s c = omega (arith, readable s (header s) c refl .long)
 
-pub entry-room : (s : List ℕ) (h : Header) (k : ℕ) → Checked s → h ≡ header s → k < h .e → 8 + 6 * k + 6 ≤ length s
+pub entry-room : (s : List ℕ) (h : Header) (k : ℕ) → CheckedFrame s → h ≡ header s → k < h .e → 8 + 6 * k + 6 ≤ length s
 entry-room s h k c e l = omega (arith, readable s h c e .room)
 
-pub sender-below : (s : List ℕ) (h : Header) → Checked s → h ≡ header s → h .from < 12
+pub sender-below : (s : List ℕ) (h : Header) → CheckedFrame s → h ≡ header s → h .from < 12
 sender-below s h c e = readable s h c e .sender
 
 -- a property of each of the entries is one of entry k
@@ -70,7 +70,7 @@ each-at P s (suc r) j (suc k) w h =
     rw e (each-at P s r (j + 1) k (w .1) (omega arith))
 
 -- so an entry that was read stands inside
-pub inside-read : (s : List ℕ) (h : Header) (k : ℕ) (a : Entry) → Checked s → h ≡ header s → k < h .e → a ≡ entryAt s k → Inside a
+pub inside-read : (s : List ℕ) (h : Header) (k : ℕ) (a : Entry) → CheckedFrame s → h ≡ header s → k < h .e → a ≡ entryAt s k → Inside a
 inside-read s h k a c e l p =
     let z : 0 + k ≡ k = zero-add k in
     rw (p, ← z) (each-at Inside s (h .e) 0 k (readable s h c e .inside) l)

@@ -4,14 +4,13 @@ ghost use mathlib.Core.List.{List};
 ghost use Prim.Native.Nat.{ℕ, _<_};
 ghost use lib.ListN.{length};
 ghost use Rattle.matrix.specs.Matrix.{merge};
-ghost use Rattle.matrix.specs.Array.{flat, entry};
+ghost use Rattle.matrix.specs.Array.{flat, entry, vector};
 ghost use Rattle.matrix.specs.Message.{Message, number};
 ghost use Rattle.frame.specs.Frame.{decode};
 ghost use Rattle.protocol.specs.Offer.{deliverable, claimsTooMuch};
 ghost use Rattle.arrival.specs.View.{nodeWith, arrivalRefusal};
-ghost use Rattle.matrix.specs.Array.{vector};
 ghost use Rattle.arrival.specs.Tests.{standsAt, exceeds, ready};
-ghost use Rattle.arrival.specs.Checked.{Checked};
+ghost use Rattle.arrival.specs.CheckedFrame.{CheckedFrame};
 
 // Whether an entry stands in row x and column y.
 fn stands_at(a: frame::entries::Entry, x: u8, y: u8) -> bool
@@ -25,7 +24,7 @@ fn stands_at(a: frame::entries::Entry, x: u8, y: u8) -> bool
 
 /// The number of a sound frame: one more than its entry in row from, column to.
 pub fn number(s: &[u8]) -> u32
-    requires { ⌜ Checked (now s) ⌝ }
+    requires { ⌜ CheckedFrame (now s) ⌝ }
     ensures { λ r. ⌜ r ≡ number (decode (now (s .entry))) ⌝ }
 {
     let h = frame::header::read(s);
@@ -54,7 +53,7 @@ fn exceeds(a: frame::entries::Entry, me: u8, m: &[u32; 144]) -> bool
 
 // 13: an entry in row me exceeds the matrix there.
 fn claims_too_much(s: &[u8], me: u8, m: &[u32; 144]) -> bool
-    requires { ⌜ Checked (now s) ⌝ }
+    requires { ⌜ CheckedFrame (now s) ⌝ }
     ensures { λ r. ⌜ ((n cap : ℕ) (deliv : List ℕ) (l : List Message) → r ≡ claimsTooMuch (nodeWith me n cap (now (m .entry)) deliv l) (decode (now (s .entry)))) ⌝ }
 {
     let h = frame::header::read(s);
@@ -72,7 +71,7 @@ fn claims_too_much(s: &[u8], me: u8, m: &[u32; 144]) -> bool
 
 /// Why a sound frame is not for this node now: 12, 13 or 14, the first that is met, and 0 where none is.
 pub fn refusal(s: &[u8], me: u8, m: &[u32; 144], deliv: &[u32; 12]) -> u8
-    requires { ⌜ Checked (now s) ⌝ }
+    requires { ⌜ CheckedFrame (now s) ⌝ }
     ensures { λ r. ⌜ ((n cap : ℕ) (l : List Message) → r ≡ arrivalRefusal (nodeWith me n cap (now (m .entry)) (now (deliv .entry)) l) (decode (now (s .entry)))) ⌝ }
 {
     let h = frame::header::read(s);
@@ -101,7 +100,7 @@ pub fn entry_ready(a: frame::entries::Entry, me: u8, deliv: &[u32; 12]) -> bool
 
 /// Whether a sound frame is deliverable at node me.
 pub fn deliverable(s: &[u8], me: u8, deliv: &[u32; 12]) -> bool
-    requires { ⌜ Checked (now s) ⌝ }
+    requires { ⌜ CheckedFrame (now s) ⌝ }
     ensures { λ r. ⌜ ((n cap : ℕ) (m : List ℕ) (l : List Message) → r ≡ deliverable (nodeWith me n cap m (now (deliv .entry)) l) (decode (now (s .entry)))) ⌝ }
 {
     let h = frame::header::read(s);
@@ -119,7 +118,7 @@ pub fn deliverable(s: &[u8], me: u8, deliv: &[u32; 12]) -> bool
 
 /// Merges the entries of a sound frame into the matrix of node j.
 pub fn merge(m: &mut [u32; 144], s: &[u8], j: u8)
-    requires { ⌜ (length (now m) ≡ 144) × Checked (now s) ⌝ }
+    requires { ⌜ (length (now m) ≡ 144) × CheckedFrame (now s) ⌝ }
     ensures { λ _. ⌜ now (m .exit) ≡ flat (merge j (entry (now (m .entry))) (decode (now (s .entry)) .entries)) ⌝ }
 {
     let h = frame::header::read(s);

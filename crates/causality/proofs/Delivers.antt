@@ -13,23 +13,23 @@ use Rattle.causality.proofs.Frames.{cut-nothing, issued-frames, trim-ba
 use Rattle.causality.proofs.Matches.{Agrees}
 use Rattle.causality.proofs.Offers.{queue-passes, whole-back}
 use Rattle.causality.proofs.Queues.{Bodies, frames-back, queue-length}
-use Rattle.causality.proofs.Records.{record-kept}
+use Rattle.causality.proofs.Records.{record-kept, recordOf}
 use Rattle.causality.specs.Demand3.{delivered}
 use Rattle.frame.specs.Frame.{encode}
-use Rattle.holdback.specs.Check.{wrongQueue}
+use Rattle.holdback.specs.WrongQueue.{wrongQueue}
 use Rattle.holdback.specs.Slots.{heldMessages, laid, queueSize, without}
 use Rattle.matrix.specs.Matrix.{Matrix, merge}
 use Rattle.matrix.specs.Message.{Kind, Message, extra, user}
 use Rattle.node.proofs.Told.{learn-room}
 use Rattle.node.specs.Answers.{AfterDeliver}
-use Rattle.node.specs.Calls.{acceptDeliver, deliverCall, refuseDeliver}
+use Rattle.node.specs.Calls.{acceptDeliver, deliverCall, refuseDeliver, refusal as refusalOf}
 use Rattle.node.specs.Sizes.{outSize}
-use Rattle.node.specs.Record.{brokenRecord, nodeOf, recordOf}
+use Rattle.node.specs.Record.{brokenRecord, nodeOf}
 use Rattle.protocol.proofs.Bounds.{below-limit}
 use Rattle.protocol.proofs.Good.{Good}
 use Rattle.protocol.proofs.Grown.{nodeAt}
 use Rattle.protocol.proofs.Lists.{at-none}
-use Rattle.protocol.specs.Node.{atLimit}
+use Rattle.protocol.specs.Node.{atLimit, Node as MessageNode}
 use Rattle.protocol.specs.Offer.{deliverable}
 use Rattle.wire.proofs.Bytes.{small-bytes}
 use Rattle.wire.proofs.Tests.{T-not-not, cond-no, cond-yes, decide, either-T, eq→eqb, le→nltb, not-or}
@@ -37,9 +37,7 @@ use Rattle.wire.specs.Bytes.{AllBytes}
 use Rattle.protocol.specs.Deliver.{Search, absent, found, past, search, conclude, deliver, learn}
 use Rattle.protocol.specs.World as messages
 use Rattle.protocol.specs.Answer as protocol
-use Rattle.protocol.specs.Node.{Node as MessageNode}
 use Rattle.node.specs.declared.Node.{Node as Record}
-use Rattle.node.specs.Calls.{refusal as refusalOf}
 
 -- what a search leaves, as frames: those without the place of the one found
 search-left : (p : Message → Bool) (l : List Message) (k : ℕ) (m : Message) (others : List Message) → search p l ≡ found k m others → (h : ℕ) × (k ≡ suc h) × (map encode others ≡ without h (map encode l))

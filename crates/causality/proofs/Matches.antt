@@ -15,16 +15,15 @@ use Rattle.frame.specs.Frame.{encode}
 use Rattle.frame.specs.Header.{kindByte}
 use Rattle.holdback.specs.Slots.{laid}
 use Rattle.matrix.specs.Message.{Message}
-use Rattle.node.specs.Record.{recordOf}
-use Rattle.protocol.proofs.Below.{put-other, put-same}
+use Rattle.causality.proofs.Records.{recordOf}
+use Rattle.protocol.proofs.Below.{update-other, update-same}
 use Rattle.protocol.proofs.Lists.{at-append, at-none, map-at}
-use Rattle.protocol.specs.World.{put}
+use Rattle.protocol.specs.Node.{update, Node as MessageNode}
 use Rattle.wire.specs.Bytes.{AllBytes}
 use Rattle.protocol.specs.World as messages
 use Rattle.protocol.specs.Answer as protocol
 use Rattle.protocol.specs.Demand3 as stated
 use Rattle.node.specs.declared.Node.{Node as Record}
-use Rattle.protocol.specs.Node.{Node as MessageNode}
 
 -- an issued message as an issued frame
 abbrev pub encodeIssue : messages.Issue → Issue
@@ -108,12 +107,12 @@ pub record Agrees (o : protocol.Outcome) (r : Record) (q : List ℕ) (a : Answer
 module _ (n : ℕ) (w : messages.World) (b : World) (m : Matches n w b) (i : ℕ) (s : messages.Step) (t : Step) (same : SameStep s t)
     (o : protocol.Outcome) (r : Record) (q : List ℕ) (a : Answer) (out : List ℕ) (g : Agrees o r q a out) where
   -- the node of one function and of the other, where one value is put
-  put-both : {A B : Type 0} (f : A → B) (u : ℕ → A) (v : ℕ → B) (x : A) (y : B) → y ≡ f x → (k : ℕ) → v k ≡ f (u k) → put v i y k ≡ f (put u i x k)
-  put-both f u v x y e k h = go (ℕ-discrete k i)
+  update-both : {A B : Type 0} (f : A → B) (u : ℕ → A) (v : ℕ → B) (x : A) (y : B) → y ≡ f x → (k : ℕ) → v k ≡ f (u k) → update v i y k ≡ f (update u i x k)
+  update-both f u v x y e k h = go (ℕ-discrete k i)
     where
-      go : Dec (k ≡ i) → put v i y k ≡ f (put u i x k)
-      go (yes z) = rw z (put-same v i y ∙ e ∙ ap f (sym (put-same u i x)))
-      go (no z) = put-other v i y k z ∙ h ∙ ap f (sym (put-other u i x k z))
+      go : Dec (k ≡ i) → update v i y k ≡ f (update u i x k)
+      go (yes z) = rw z (update-same v i y ∙ e ∙ ap f (sym (update-same u i x)))
+      go (no z) = update-other v i y k z ∙ h ∙ ap f (sym (update-other u i x k z))
 
   same-log : b .log ++ map (issuedBy (length (b .history))) (issuedFrames a out) ≡ map encodeIssue (w .log ++ map (messages.issuedBy (length (w .history))) (protocol.issued (o .answer)))
   same-log =
@@ -130,8 +129,8 @@ module _ (n : ℕ) (w : messages.World) (b : World) (m : Matches n w b) (i : ℕ
 
   pub matches-after : Matches n (messages.afterStep w i s o) (afterCall b i t r q a out)
   matches-after = record {
-    records = λ k h. put-both recordOf (w .nodes) (b .records) (o .node) r (g .node) k (m .records k h);
-    queues = λ k h. put-both (λ (d : MessageNode). laid (map encode (d .held))) (w .nodes) (b .queues) (o .node) q (g .queue) k (m .queues k h);
+    records = λ k h. update-both recordOf (w .nodes) (b .records) (o .node) r (g .node) k (m .records k h);
+    queues = λ k h. update-both (λ (d : MessageNode). laid (map encode (d .held))) (w .nodes) (b .queues) (o .node) q (g .queue) k (m .queues k h);
     log = same-log;
     history = same-snoc (w .history) (b .history) (record { node = i; step = s; answer = o .answer }) (record { node = i; step = t; answer = a }) (m .history) (record { node = refl; step = same; answer = g .answer });
     bodies = λ p f at. body p f (at-append (w .log) (map (messages.issuedBy (length (w .history))) (protocol.issued (o .answer))) p f at);

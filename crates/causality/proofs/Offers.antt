@@ -9,19 +9,19 @@ use lib.ListN.{length}
 use Rattle.causality.proofs.Frames.{cut-nothing}
 use Rattle.causality.proofs.Matches.{Agrees}
 use Rattle.causality.proofs.Queues.{Bodies, frame-passes, frames-back, messages-back, queue-here, queue-length, sound-issue}
-use Rattle.causality.proofs.Records.{node-back, record-kept}
+use Rattle.causality.proofs.Records.{node-back, record-kept, recordOf}
 use Rattle.causality.proofs.Refused.{SaysNo, refused-agrees}
 use Rattle.causality.specs.Demand3.{offered}
 use Rattle.causality.specs.ListRefusals.{Expected}
 use Rattle.frame.proofs.Written.{decode-encode}
 use Rattle.frame.specs.Frame.{decode, encode}
 use Rattle.frame.specs.Refusals.{frameRefusal}
-use Rattle.holdback.specs.Check.{wrongQueue}
+use Rattle.holdback.specs.WrongQueue.{wrongQueue}
 use Rattle.holdback.specs.Slots.{heldMessages, laid, queueSize}
 use Rattle.matrix.specs.Message.{Message}
 use Rattle.node.specs.Answers.{AfterOffer}
-use Rattle.node.specs.Calls.{acceptOffer, offerCall, refuseOffer}
-use Rattle.node.specs.Record.{brokenRecord, nodeOf, recordOf}
+use Rattle.node.specs.Calls.{acceptOffer, offerCall, refuseOffer, refusal as refusalOf}
+use Rattle.node.specs.Record.{brokenRecord, nodeOf}
 use Rattle.protocol.proofs.Bounds.{claims-little}
 use Rattle.protocol.proofs.Good.{Good}
 use Rattle.protocol.proofs.Grown.{nodeAt}
@@ -33,7 +33,6 @@ use Rattle.protocol.specs.Answer as protocol
 use Rattle.protocol.specs.Node.{Node as MessageNode}
 use Rattle.node.specs.declared.Node.{Node as Record}
 use Rattle.node.specs.declared.OfferAnswer.the-variants as answer
-use Rattle.node.specs.Calls.{refusal as refusalOf}
 
 -- an offer of m at d is refused, or it is not
 data Case (d : MessageNode) (m : Message) : Type 0 where

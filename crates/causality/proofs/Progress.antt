@@ -11,7 +11,7 @@ use Rattle.causality.proofs.Matches.{Matches, encodeIssue, named}
 use Rattle.causality.proofs.Queues.{frames-back, held-sound, sound-issue}
 use Rattle.causality.proofs.Reading.{earliest-there, held-back, held-there, issue-back, issue-there, label-encode, same-held, some-back, some-there, to-encode}
 use Rattle.causality.proofs.Steps.{given-here, offered-here}
-use Rattle.causality.specs.Demand3.{DeliversNew, Earliest, Held, HeldAgrees, Issue, IssueAt, Label, World, destination, heldAt, queued}
+use Rattle.causality.specs.Demand3.{DeliversNew, Earliest, Held, HeldAgrees, Issue, IssueAt, Label, World, destination, heldAt, queued, Delivered}
 use Rattle.causality.specs.EachDestination.{EarliestThere}
 use Rattle.frame.proofs.Written.{decode-encode}
 use Rattle.frame.specs.Frame.{decode, encode}
@@ -32,7 +32,6 @@ use Rattle.protocol.specs.Demand3 as stated
 use Rattle.protocol.specs.Deliver.{deliver}
 use Rattle.protocol.specs.Node.{Node as MessageNode}
 use Rattle.node.specs.declared.Node.{Node as Record}
-use Rattle.causality.specs.Demand3.{Delivered}
 
 module _ (n cap : ℕ) (w : messages.World) (b : World) (g : Good n (λ i. cap) w) (few : length (w .history) < 1000000000) (m : Matches n w b) (t : stated.Demand3For n (λ i. cap) w) where
   -- issued messages are sound

@@ -16,7 +16,7 @@ use Rattle.frame.specs.Refusals.{frameRefusal}
 use Rattle.holdback.proofs.Held.{FrameKept}
 use Rattle.holdback.proofs.Passing.{Apart, EachFrame, framed-all, queue-right}
 use Rattle.holdback.proofs.Slots.{EachFramed, framed-fits, held-slots, length-slots}
-use Rattle.holdback.specs.Check.{wrongQueue}
+use Rattle.holdback.specs.WrongQueue.{wrongQueue}
 use Rattle.holdback.specs.Slots.{heldFrames, heldMessages, laid, queueSize}
 use Rattle.matrix.specs.Message.{Message, Sound}
 use Rattle.protocol.proofs.Bounds.{entry-bound, issue-sound}

@@ -6,7 +6,7 @@ use mathlib.Core.Path.{_∙_, _≡_, ap, ap₂, refl, subst, sym}
 use native.Mathlib.Omega.{arith}
 use lib.ListN.{getElem?}
 use Rattle.causality.proofs.Matches.{Matches, encodeIssue, labelOf, named, same-answers, same-back, same-there}
-use Rattle.causality.specs.Demand3.{DeliveredAt, Earliest, HappenedBefore, Held, Issue, IssueAt, Label, User, World, chain, deliveries, heldAt, label, message, offers, offersAccepted, sameNode}
+use Rattle.causality.specs.Demand3.{DeliveredAt, Earliest, HappenedBefore, Held, Issue, IssueAt, Label, User, World, chain, deliveries, heldAt, label, message, offers, offersAccepted, sameNode, Delivered}
 use Rattle.frame.proofs.EntryLists.{length-entriesOf}
 use Rattle.frame.proofs.Written.{decode-encode, header-encode}
 use Rattle.frame.specs.Frame.{decode, encode, headerOf}
@@ -15,7 +15,6 @@ use Rattle.frame.specs.declared.header.Header.{Header}
 use Rattle.matrix.specs.Matrix.{count}
 use Rattle.matrix.specs.Message.{Kind, Message, Sound, extra, number, user}
 use Rattle.protocol.proofs.Lists.{at-map, map-at}
-use Rattle.causality.specs.Demand3.{Delivered}
 use Rattle.protocol.specs.World as messages
 use Rattle.protocol.specs.Answer as protocol
 use Rattle.protocol.specs.Order as order

@@ -13,7 +13,7 @@ use Rattle.matrix.proofs.Cleared.{rules-back}
 use Rattle.matrix.specs.Array.{entry, flat, listFrom, vector}
 use Rattle.matrix.specs.Matrix.{Matrix}
 use Rattle.matrix.specs.Message.{InRange, Message}
-use Rattle.node.specs.Record.{brokenRecord, nodeOf, recordOf}
+use Rattle.node.specs.Record.{brokenRecord, nodeOf}
 use Rattle.rules.proofs.Facts.{Ranged, Unbroken}
 use Rattle.rules.proofs.Kept.{rules-kept}
 use Rattle.rules.specs.Rules.{brokenRules}
@@ -23,6 +23,11 @@ use Rattle.protocol.proofs.Grown.{nodeAt}
 use Rattle.wire.proofs.Tests.{of-false}
 use Rattle.protocol.specs.World as messages
 use Rattle.protocol.specs.Node.{Node as MessageNode}
+use Rattle.node.specs.declared.Node.{Node as Record}
+
+-- the record of a protocol's node
+abbrev pub recordOf : MessageNode → Record
+recordOf d = record { me = d .me; n = d .n; cap = d .cap; m = flat (d .matrix); deliv = listFrom 0 12 (d .deliv); held = length (d .held) }
 
 -- n, me and cap are in range
 pub in-range : (me n cap : ℕ) → me < n → InRange n cap → Ranged me n cap

@@ -9,17 +9,16 @@ use lib.Dec.{T, eqb, eqb-refl, ltb}
 use lib.ListN.{take}
 use Rattle.causality.proofs.Frames.{cut-nothing}
 use Rattle.causality.proofs.Matches.{Agrees}
-use Rattle.causality.specs.Demand3.{Answer, accepted, counted, deliveries, delivery, framesIn, offersAccepted}
+use Rattle.causality.specs.Demand3.{Answer, accepted, bytesIssued, deliveries, delivery, framesIn, offersAccepted}
 use Rattle.causality.specs.ListRefusals.{Expected}
 use Rattle.frame.specs.Frame.{encode}
 use Rattle.holdback.specs.Slots.{laid}
-use Rattle.node.specs.Record.{recordOf}
+use Rattle.causality.proofs.Records.{recordOf}
 use Rattle.protocol.proofs.Lists.{at-none}
-use Rattle.protocol.specs.Node.{atLimit}
+use Rattle.protocol.specs.Node.{atLimit, Node as MessageNode}
 use Rattle.protocol.specs.Send.{badDestination, longBody, send, sending}
 use Rattle.wire.proofs.Tests.{cond-no, cond-yes, either-T}
 use Rattle.protocol.specs.Answer as protocol
-use Rattle.protocol.specs.Node.{Node as MessageNode}
 
 -- an answer that says no, as a list can meet it
 pub record SaysNo (a : Answer) : Type 0 where
@@ -27,7 +26,7 @@ pub record SaysNo (a : Answer) : Type 0 where
   pub nothing : delivery a ≡ none
   pub holds : offersAccepted a ≡ 0
   pub gives : deliveries a ≡ 0
-  pub counts : counted a ≡ 0
+  pub counts : bytesIssued a ≡ 0
   pub expected : Expected a
 
 -- any refusal of a step agrees with any of a call

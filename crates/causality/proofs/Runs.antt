@@ -9,7 +9,7 @@ use lib.Dec.{T, ltb, ltb→lt, nltb→le}
 use lib.ListN.{getElem?, length}
 use Rattle.wire.specs.Limits.{maxBody}
 use Rattle.causality.proofs.Matches.{Matches, empty, encodeIssue}
-use Rattle.causality.proofs.Records.{in-range}
+use Rattle.causality.proofs.Records.{in-range, recordOf}
 use Rattle.causality.proofs.Steps.{deliver-matches, deliver-matches-short, forget, lentLess, offer-matches, send-matches, send-matches-short}
 use Rattle.causality.specs.Demand3.{BodiesOfBytes, Issue, Step, World, deliverAt, delivers, offerIssue, offers, run, sendAt, sends, start, step}
 use Rattle.holdback.specs.Slots.{laid, queueSize, slots, zeros}
@@ -17,7 +17,6 @@ use Rattle.matrix.specs.Array.{flat}
 use Rattle.matrix.specs.Message.{InRange}
 use Rattle.node.specs.Calls.{deliverCall, sendCall}
 use Rattle.node.specs.Sizes.{outSize}
-use Rattle.node.specs.Record.{recordOf}
 use Rattle.rules.proofs.Kept.{range-T}
 use Rattle.rules.specs.Rules.{inRange}
 use Rattle.node.specs.SetUp.{freshRecord, setUp}
@@ -25,7 +24,7 @@ use Rattle.node.specs.declared.SetUp.{SetUp}
 use Rattle.protocol.proofs.Good.{Good}
 use Rattle.protocol.proofs.Lists.{at-map, at-none, none-map}
 use Rattle.protocol.proofs.Runs.{run-length, step-good}
-use Rattle.protocol.specs.Node.{fresh}
+use Rattle.protocol.specs.World.{fresh}
 use Rattle.protocol.specs.Send.{send}
 use Rattle.wire.proofs.Tests.{cond-elim, cond-yes, or-not}
 use Rattle.wire.specs.Bytes.{AllBytes}

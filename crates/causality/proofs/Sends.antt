@@ -11,7 +11,7 @@ use lib.ListN.{getElem?, length}
 use Rattle.causality.proofs.Frames.{issued-frames, send-room, trim-bare}
 use Rattle.causality.proofs.Matches.{Agrees}
 use Rattle.causality.proofs.Queues.{Bodies}
-use Rattle.causality.proofs.Records.{node-back, record-kept}
+use Rattle.causality.proofs.Records.{node-back, record-kept, recordOf}
 use Rattle.causality.proofs.Refused.{SaysNo, refused-agrees}
 use Rattle.causality.specs.Demand3.{sent}
 use Rattle.causality.specs.ListRefusals.{Expected}
@@ -22,13 +22,13 @@ use Rattle.matrix.proofs.Bounds.{count-121}
 use Rattle.matrix.specs.Matrix.{clear}
 use Rattle.matrix.specs.Message.{Message}
 use Rattle.node.specs.Answers.{AfterSend}
-use Rattle.node.specs.Calls.{acceptSend, refuseSend, sendCall}
+use Rattle.node.specs.Calls.{acceptSend, refuseSend, sendCall, refusal as refusalOf}
 use Rattle.node.specs.Sizes.{outSize}
-use Rattle.node.specs.Record.{brokenRecord, nodeOf, recordOf}
+use Rattle.node.specs.Record.{brokenRecord, nodeOf}
 use Rattle.protocol.proofs.Bounds.{below-limit}
 use Rattle.protocol.proofs.Good.{Good}
 use Rattle.protocol.proofs.Grown.{nodeAt}
-use Rattle.protocol.specs.Node.{atLimit}
+use Rattle.protocol.specs.Node.{atLimit, Node as MessageNode}
 use Rattle.protocol.specs.Send.{longBody, send, sending, sentMatrix, sentMessage}
 use Rattle.wire.proofs.Bytes.{small-bytes}
 use Rattle.trim.proofs.Bounds.{trim-bytes}
@@ -37,10 +37,8 @@ use Rattle.wire.specs.Bytes.{AllBytes}
 use Rattle.wire.specs.Limits.{maxBody, maxFrame}
 use Rattle.protocol.specs.World as messages
 use Rattle.protocol.specs.Answer as protocol
-use Rattle.protocol.specs.Node.{Node as MessageNode}
 use Rattle.node.specs.declared.Node.{Node as Record}
 use Rattle.node.specs.declared.SendAnswer.the-variants as answer
-use Rattle.node.specs.Calls.{refusal as refusalOf}
 
 module _ (n cap : ℕ) (w : messages.World) (g : Good n (λ i. cap) w) (few : length (w .history) < 1000000000) (bodies : Bodies w) (i : ℕ) (hi : i < n) where
   -- the node, with any messages held

@@ -19,7 +19,7 @@ use Rattle.holdback.specs.Slots.{laid}
 use Rattle.node.specs.Answers.{AfterDeliver, AfterOffer, AfterSend}
 use Rattle.node.specs.Calls.{deliverCall, offerCall, sendCall}
 use Rattle.node.specs.Sizes.{outSize}
-use Rattle.node.specs.Record.{recordOf}
+use Rattle.causality.proofs.Records.{recordOf}
 use Rattle.protocol.proofs.Bounds.{below-limit}
 use Rattle.protocol.proofs.Good.{Good}
 use Rattle.protocol.proofs.Grown.{node-eq, nodeAt}

@@ -13,7 +13,7 @@ use Rattle.wire.specs.Bytes.{AllBytes}
 use Rattle.matrix.specs.Matrix.{count}
 use Rattle.matrix.specs.Array.{entry}
 use Rattle.matrix.specs.Message.{number, InRange}
-use Rattle.protocol.specs.World.{put}
+use Rattle.protocol.specs.Node.{update}
 use Rattle.frame.specs.Header.{header, ownLength}
 use Rattle.frame.specs.Frame.{decode}
 use Rattle.holdback.specs.Slots.{queueSize, zeros, heldFrames}
@@ -62,15 +62,16 @@ abbrev pub accepted : Answer → Bool
 accepted a = eqb (refusal a) 0
 
 -- how many bytes of the frame output an answer counts
-abbrev pub counted : Answer → ℕ
-counted (sent (send.Refused k)) = 0
-counted (sent (send.Sent bytes extras)) = bytes
-counted (offered a) = 0
-counted (delivered (deliver.Refused k)) = 0
-counted (delivered (deliver.Nothing tried)) = 0
-counted (delivered (deliver.Frame d)) = d .bytes
+abbrev pub bytesIssued : Answer → ℕ
+bytesIssued (sent (send.Refused k)) = 0
+bytesIssued (sent (send.Sent bytes extras)) = bytes
+bytesIssued (offered a) = 0
+bytesIssued (delivered (deliver.Refused k)) = 0
+bytesIssued (delivered (deliver.Nothing tried)) = 0
+bytesIssued (delivered (deliver.Frame d)) = d .bytes
 
--- at most k frames that stand end to end, each cut off by its own e and b
+-- at most k frames that stand end to end, each cut off by its own e and b. A frame has 12 bytes or more, so k rounds are enough for k bytes,
+-- and k only shows that the cutting ends. Of bytes that are no frames the last piece is what is left; a call writes none such.
 unfoldable pub cutFor : ℕ → List ℕ → List (List ℕ)
 cutFor zero s = []
 cutFor (suc k) [] = []
@@ -82,7 +83,7 @@ framesIn s = cutFor (length s) s
 
 -- the frames that a call issued, in issue order: those among the bytes of its frame output, as the call left it, that its answer counts
 abbrev pub issuedFrames : Answer → List ℕ → List (List ℕ)
-issuedFrames a out = framesIn (take (counted a) out)
+issuedFrames a out = framesIn (take (bytesIssued a) out)
 
 -- an issued frame, and the place in the history of the step that issued it
 pub record Issue : Type 0 where
@@ -118,8 +119,8 @@ IssueAt w p g = getElem? (w .log) p ≡ some g
 abbrev pub afterCall : World → ℕ → Step → Record → List ℕ → Answer → List ℕ → World
 afterCall w i s r q a out =
     record {
-      records = put (w .records) i r;
-      queues = put (w .queues) i q;
+      records = update (w .records) i r;
+      queues = update (w .queues) i q;
       log = w .log ++ map (issuedBy (length (w .history))) (issuedFrames a out);
       history = w .history ++ (record { node = i; step = s; answer = a } ∷ []);
     }
@@ -229,7 +230,8 @@ abbrev pub answersAt : (Answer → ℕ) → ℕ → List Event → ℕ
 answersAt f j [] = 0
 answersAt f j (e ∷ l) = cond (eqb (e .node) j) (f (e .answer)) 0 + answersAt f j l
 
--- how many frames are held at node j: the accepted offers there less the deliveries there
+-- how many frames are held at node j: the accepted offers there less the deliveries there, of which there are never more; `agrees` below
+-- shows that the node's record has this number
 abbrev pub heldAt : World → ℕ → ℕ
 heldAt w j = answersAt offersAccepted j (w .history) - answersAt deliveries j (w .history)
 

@@ -6,7 +6,8 @@ use native.Mathlib.Nat.{sub-zero}
 use native.Mathlib.Omega.{arith}
 use lib.ListN.{drop, getD, length, take}
 use Rattle.text.specs.Fields.{value}
-use Rattle.text.specs.Pieces.{before, split}
+use Rattle.text.specs.Pieces.{split}
+use Rattle.text.specs.Before.{before}
 use Rattle.text.proofs.Pieces.{split-found, split-last, split-none, split-some}
 use Rattle.commands.specs.Commands as commands
 use Rattle.commands.specs.FirstLine as firstLine

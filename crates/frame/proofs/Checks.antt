@@ -10,7 +10,7 @@ use lib.Dec.{eqb, leb, leb·zero, ltb, nltb→le}
 use lib.ListN.{length}
 use Rattle.frame.specs.Entries.{entriesFrom, entryAt}
 use Rattle.frame.specs.Header.{header}
-use Rattle.frame.specs.Refusals.{before, eachOk, entryOk, frameRefusal, rising, risingAfter, wrongAddress, wrongBody, wrongContent, wrongEntries, wrongKind, wrongTrailer}
+use Rattle.frame.specs.Refusals.{precedes, eachOk, entryOk, frameRefusal, rising, risingAfter, wrongAddress, wrongBody, wrongContent, wrongEntries, wrongKind, wrongTrailer}
 use Rattle.frame.specs.declared.entries.Entry.{Entry}
 use Rattle.frame.specs.declared.header.Header.{Header}
 use Rattle.wire.proofs.Tests.{no-three, not-not, of-false}
@@ -58,9 +58,9 @@ unfoldable pub Narrow : List Entry → Type 0
 Narrow [] = Unit {0}
 Narrow (a ∷ l) = (a .column < 256) × Narrow l
 
-before-place : (a b : Entry) → a .column < 256 → b .column < 256 → before a b ≡ leb (placeOf a + 1) (placeOf b)
-unfolding before
-before-place a b p q = go (decLt (a .row) (b .row)) (ℕ-discrete (a .row) (b .row)) (decLt (a .column) (b .column))
+precedes-place : (a b : Entry) → a .column < 256 → b .column < 256 → precedes a b ≡ leb (placeOf a + 1) (placeOf b)
+unfolding precedes
+precedes-place a b p q = go (decLt (a .row) (b .row)) (ℕ-discrete (a .row) (b .row)) (decLt (a .column) (b .column))
   where
     go : Dec (a .row < b .row) → Dec (a .row ≡ b .row) → Dec (a .column < b .column)
         → (ltb (a .row) (b .row) || eqb (a .row) (b .row) && ltb (a .column) (b .column)) ≡ leb (placeOf a + 1) (placeOf b)
@@ -80,8 +80,8 @@ after : (n : ℕ) (h : Header) (a : Entry) (l : List Entry) → a .column < 256 
 unfolding eachOk risingAfter okFrom Narrow
 after n h a [] p w = refl
 after n h a (b ∷ l) p w =
-    swap-and (entryOk n h b) (eachOk n h l) (before a b) (risingAfter b l)
-    ∙ rw (before-place a b p (w .0)) (ap (λ (t : Bool). entryOk n h b && leb (placeOf a + 1) (placeOf b) && t) (after n h b l (w .0) (w .1)))
+    swap-and (entryOk n h b) (eachOk n h l) (precedes a b) (risingAfter b l)
+    ∙ rw (precedes-place a b p (w .0)) (ap (λ (t : Bool). entryOk n h b && leb (placeOf a + 1) (placeOf b) && t) (after n h b l (w .0) (w .1)))
 
 -- the code's walk from place 0 is the definition
 pub entries-walk : (n : ℕ) (h : Header) (l : List Entry) → Narrow l → wrongEntries n h l ≡ not (okFrom n h 0 l)

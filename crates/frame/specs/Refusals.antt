@@ -39,14 +39,14 @@ unfoldable pub eachOk : ℕ → Header → List Entry → Bool
 eachOk n h [] = true
 eachOk n h (a ∷ l) = entryOk n h a && eachOk n h l
 
--- by row then column, a comes before b
-unfoldable pub before : Entry → Entry → Bool
-before a b = ltb (a .row) (b .row) || eqb (a .row) (b .row) && ltb (a .column) (b .column)
+-- by row then column, a stands in front of b
+unfoldable pub precedes : Entry → Entry → Bool
+precedes a b = ltb (a .row) (b .row) || eqb (a .row) (b .row) && ltb (a .column) (b .column)
 
 -- strictly rising by row then column, behind the entry a
 unfoldable pub risingAfter : Entry → List Entry → Bool
 risingAfter a [] = true
-risingAfter a (b ∷ l) = before a b && risingAfter b l
+risingAfter a (b ∷ l) = precedes a b && risingAfter b l
 
 -- strictly rising by row then column
 unfoldable pub rising : List Entry → Bool

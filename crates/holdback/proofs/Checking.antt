@@ -8,7 +8,7 @@ use lib.Dec.{T, eqb, eqb-refl, eqb→eq}
 use lib.ListN.{drop, length, length-drop, take, take-append-drop}
 use lib.Seq.{drop-drop, length-take-le}
 use Rattle.holdback.proofs.Slots.{held-fit, length-padded, zeros-add, zeros-none}
-use Rattle.holdback.specs.Check.{heldRefused, sameBytes, someAlike, someRefused, wrongQueue}
+use Rattle.holdback.specs.WrongQueue.{heldRefused, sameBytes, someAlike, someRefused, wrongQueue}
 use Rattle.holdback.specs.Slots.{frameIn, heldFrames, heldMessages, padded, queueSize, slots, zeros}
 use Rattle.holdback.specs.Steps.{allZero, wrongSlot}
 use Rattle.protocol.specs.Node.{Node}

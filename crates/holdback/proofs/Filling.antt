@@ -12,7 +12,7 @@ use Rattle.frame.specs.Frame.{decode}
 use Rattle.holdback.proofs.Checking.{queue-split, someWrong}
 use Rattle.holdback.proofs.Held.{held-snoc, wrong-done, wrong-rest}
 use Rattle.holdback.proofs.Keys.{equal-alike, key-told, key-wrong, small-held}
-use Rattle.holdback.specs.Check.{wrongQueue}
+use Rattle.holdback.specs.WrongQueue.{wrongQueue}
 use Rattle.holdback.specs.Places.{frameAt, slotAt}
 use Rattle.holdback.specs.Slots.{heldFrames, heldMessages, queueSize}
 use Rattle.holdback.specs.Steps.{allZero, keyOf, slotKey, someEqual}

@@ -14,7 +14,7 @@ use Rattle.frame.specs.Header.{header, ownLength}
 use Rattle.frame.specs.Refusals.{frameRefusal}
 use Rattle.holdback.proofs.Checking.{later, same-eq, someWrong}
 use Rattle.holdback.proofs.Slots.{Framed, header-take, own-least}
-use Rattle.holdback.specs.Check.{heldRefused, sameBytes, someAlike, someRefused, wrongQueue}
+use Rattle.holdback.specs.WrongQueue.{heldRefused, sameBytes, someAlike, someRefused, wrongQueue}
 use Rattle.holdback.specs.Places.{frameAt, slotAt}
 use Rattle.holdback.specs.Slots.{frameIn, heldFrames, heldMessages, laid, queueSize}
 use Rattle.holdback.specs.Steps.{wrongSlot}

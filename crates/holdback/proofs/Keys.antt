@@ -18,7 +18,7 @@ use Rattle.frame.specs.Refusals.{frameRefusal}
 use Rattle.frame.specs.declared.header.Header.{Header}
 use Rattle.holdback.proofs.Checking.{slot-zeros, someWrong}
 use Rattle.holdback.proofs.Held.{frame-kept, header-frame, own-fits}
-use Rattle.holdback.specs.Check.{heldRefused, sameBytes, someAlike}
+use Rattle.holdback.specs.WrongQueue.{heldRefused, sameBytes, someAlike}
 use Rattle.holdback.specs.Slots.{frameIn, heldFrames, heldMessages, padded}
 use Rattle.holdback.specs.Steps.{allZero, among, keyOf, slotKey, someEqual, wrongSlot}
 use Rattle.matrix.specs.Message.{Message, number}

@@ -4,10 +4,10 @@ use mathlib.Core.List.{List}
 use mathlib.Core.Path.{_≡_, refl}
 use native.Mathlib.Omega.{arith}
 use lib.ListN.{drop, length, take}
-use Rattle.arrival.specs.Checked.{Checked}
+use Rattle.arrival.specs.CheckedFrame.{CheckedFrame}
 use Rattle.frame.specs.Header.{header, ownLength}
 use Rattle.holdback.proofs.Held.{frame-part, held-kept, length-slot, own-fits, queue-kept}
-use Rattle.holdback.specs.Checked.{CheckedQueue}
+use Rattle.holdback.specs.CheckedQueue.{CheckedQueue}
 use Rattle.holdback.specs.Places.{frameAt, slotAt}
 use Rattle.wire.specs.Limits.{maxFrame}
 
@@ -21,9 +21,9 @@ pub record HeldPart (q : List ℕ) (i end : ℕ) : Type 0 where
   pub to : end ≤ maxFrame * i + maxFrame
   pub inside : end ≤ length q
   pub same : take (end - maxFrame * i) (drop (maxFrame * i) q) ≡ frameAt q i
-  pub checked : Checked (frameAt q i)
+  pub checked : CheckedFrame (frameAt q i)
 
-pub queue-frame : (held : ℕ) (q : List ℕ) → CheckedQueue held q → (i : ℕ) → i < held → Checked (frameAt q i)
+pub queue-frame : (held : ℕ) (q : List ℕ) → CheckedQueue held q → (i : ℕ) → i < held → CheckedFrame (frameAt q i)
 queue-frame held q c i h =
     let k = held-kept (c .node) held q (queue-kept (c .node) held q (c .passes) .refused) i h in
     record { n = c .node .n; cap = c .node .cap; few = c .few; passes = k .passes }

@@ -13,7 +13,7 @@ use Rattle.frame.specs.Frame.{decode}
 use Rattle.frame.specs.Refusals.{frameRefusal}
 use Rattle.holdback.proofs.Held.{FrameKept, frame-kept, passes-framed}
 use Rattle.holdback.proofs.Slots.{EachFramed, held-slots}
-use Rattle.holdback.specs.Check.{heldRefused, sameBytes, someAlike, someRefused, wrongQueue}
+use Rattle.holdback.specs.WrongQueue.{heldRefused, sameBytes, someAlike, someRefused, wrongQueue}
 use Rattle.holdback.specs.Slots.{laid, without}
 use Rattle.matrix.specs.Message.{Message, number}
 use Rattle.protocol.proofs.Lists.{at-none}

@@ -6,7 +6,7 @@ use mathlib.Core.Path.{_∙_, _≡_, sym}
 use native.Mathlib.Nat.{sub-zero}
 use Rattle.arrival.proofs.Arrived.{deliverable-walk}
 use Rattle.arrival.proofs.Walks.{everyEntry}
-use Rattle.arrival.specs.Checked.{Checked}
+use Rattle.arrival.specs.CheckedFrame.{CheckedFrame}
 use Rattle.arrival.specs.Tests.{ready}
 use Rattle.arrival.specs.View.{nodeWith}
 use Rattle.matrix.specs.Array.{vector}
@@ -40,7 +40,7 @@ module _ (me : ℕ) (deliv : List ℕ) (held : ℕ) (q : List ℕ) where
   pub try-none : (i : ℕ) → Trying me deliv held q i → held ≤ i → Tried me deliv held q 0
   try-none i t h n cap m l = sym (t n cap m l ∙ first-none (deliverable (nodeWith me n cap m deliv l)) held q i h)
 
-  module _ (i : ℕ) (h : Header) (t : Trying me deliv held q i) (p : i < held) (c : Checked (frameAt q i)) (e : h ≡ header (frameAt q i)) where
+  module _ (i : ℕ) (h : Header) (t : Trying me deliv held q i) (p : i < held) (c : CheckedFrame (frameAt q i)) (e : h ≡ header (frameAt q i)) where
     pub try-next : readyFrom me deliv (frameAt q i) 0 (h .e) ≡ false → Trying me deliv held q (i + 1)
     try-next w n cap m l =
         t n cap m l

@@ -4,7 +4,7 @@ use mathlib.Core.Bool.{Bool, _&&_, _||_, cond, false, not, true}
 use mathlib.Core.List.{List, [], _∷_}
 use lib.Dec.{eqb}
 use Rattle.frame.specs.Frame.{decode}
-use Rattle.holdback.specs.Check.{heldRefused, sameBytes}
+use Rattle.holdback.specs.WrongQueue.{heldRefused, sameBytes}
 use Rattle.holdback.specs.Slots.{frameIn, padded}
 use Rattle.matrix.specs.Message.{Message, number}
 use Rattle.protocol.specs.Node.{Node}

@@ -11,11 +11,11 @@ ghost use Rattle.frame.specs.Header.{header, ownLength};
 ghost use Rattle.protocol.specs.Offer.{deliverable, sameOrigin, someSameOrigin};
 ghost use Rattle.protocol.specs.Deliver.{search};
 ghost use Rattle.arrival.specs.View.{nodeWith};
-ghost use Rattle.arrival.specs.Checked.{Checked};
+ghost use Rattle.arrival.specs.CheckedFrame.{CheckedFrame};
 ghost use Rattle.holdback.specs.Slots.{queueSize, zeros, laid, heldFrames, heldMessages, without};
 ghost use Rattle.holdback.specs.Places.{slotAt, placeOf};
-ghost use Rattle.holdback.specs.Check.{wrongQueue};
-ghost use Rattle.holdback.specs.Checked.{CheckedQueue};
+ghost use Rattle.holdback.specs.WrongQueue.{wrongQueue};
+ghost use Rattle.holdback.specs.CheckedQueue.{CheckedQueue};
 ghost use Rattle.holdback.specs.Steps.{allZero, slotKey, among, someEqual};
 
 /// Bytes of the queue.
@@ -104,7 +104,7 @@ pub fn search(q: &[u8], held: usize, me: u8, deliv: &[u32; 12]) -> usize
 
 // Whether a sound frame has this from and number.
 fn same_origin(s: &[u8], from: u8, k: u32) -> bool
-    requires { ⌜ Checked (now s) ⌝ }
+    requires { ⌜ CheckedFrame (now s) ⌝ }
     ensures { λ r. ⌜ ((g : Message) → from ≡ g .from → k ≡ number g → r ≡ sameOrigin (decode (now (s .entry))) g) ⌝ }
 {
     let h = frame::header::read(s);
@@ -116,7 +116,7 @@ fn same_origin(s: &[u8], from: u8, k: u32) -> bool
 
 /// Whether a held frame has the same from and number as the sound frame s.
 pub fn alike(q: &[u8], held: usize, s: &[u8]) -> bool
-    requires { ⌜ CheckedQueue held (now q) × Checked (now s) ⌝ }
+    requires { ⌜ CheckedQueue held (now q) × CheckedFrame (now s) ⌝ }
     ensures { λ r. ⌜ r ≡ someSameOrigin (heldMessages held (now (q .entry))) (decode (now (s .entry))) ⌝ }
 {
     let h = frame::header::read(s);

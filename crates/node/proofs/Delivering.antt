@@ -18,8 +18,8 @@ use Rattle.holdback.proofs.Parts.{HeldPart, endOf, held-part}
 use Rattle.holdback.proofs.Queues.{found-held, length-without}
 use Rattle.holdback.proofs.Searched.{found-none}
 use Rattle.holdback.proofs.Slots.{length-held}
-use Rattle.holdback.specs.Check.{wrongQueue}
-use Rattle.holdback.specs.Checked.{CheckedQueue}
+use Rattle.holdback.specs.WrongQueue.{wrongQueue}
+use Rattle.holdback.specs.CheckedQueue.{CheckedQueue}
 use Rattle.holdback.specs.Places.{frameAt, placeOf}
 use Rattle.holdback.specs.Slots.{heldFrames, heldMessages, laid, queueSize, without}
 use Rattle.matrix.specs.Array.{entry, flat, listFrom, vector}
@@ -27,8 +27,8 @@ use Rattle.matrix.specs.Matrix.{Matrix}
 use Rattle.matrix.specs.Message.{Kind, Message, extra, number, user}
 use Rattle.node.specs.Answers.{AfterDeliver, afterDeliver}
 use Rattle.node.specs.Calls.{acceptDeliver, deliverCall, refusal, refuseDeliver}
-use Rattle.node.specs.Checks.{deliverRefusal, nodeAt, recordRefusal, shortOutputs}
-use Rattle.node.specs.Record.{brokenRecord, nodeOf}
+use Rattle.node.specs.CallRefusals.{deliverRefusal, recordRefusal, shortOutputs}
+use Rattle.node.specs.Record.{nodeAt, brokenRecord, nodeOf}
 use Rattle.node.specs.Sizes.{outSize}
 use Rattle.protocol.specs.Answer.{Outcome, accepted, delivery, label, refuse}
 use Rattle.protocol.specs.Deliver.{Search, absent, conclude, countUp, deliver, found, learn, search}

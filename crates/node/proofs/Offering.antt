@@ -14,14 +14,14 @@ use Rattle.frame.proofs.Passed.{passes-kept}
 use Rattle.frame.specs.Frame.{decode}
 use Rattle.frame.specs.Refusals.{frameRefusal}
 use Rattle.holdback.proofs.Slots.{length-held}
-use Rattle.holdback.specs.Check.{wrongQueue}
+use Rattle.holdback.specs.WrongQueue.{wrongQueue}
 use Rattle.holdback.specs.Slots.{heldFrames, heldMessages, laid, queueSize}
 use Rattle.matrix.specs.Message.{Message}
 use Rattle.node.proofs.Shared.{RecordPassed, first-met, first-none, queue-laid, record-met, record-passed, record-past}
 use Rattle.node.specs.Answers.{AfterOffer, afterOffer}
 use Rattle.node.specs.Calls.{acceptOffer, offerCall, refusal, refuseOffer}
-use Rattle.node.specs.Checks.{holdRefusal, nodeAt, offerRefusal, recordRefusal}
-use Rattle.node.specs.Record.{brokenRecord, nodeOf}
+use Rattle.node.specs.CallRefusals.{holdRefusal, offerRefusal, recordRefusal}
+use Rattle.node.specs.Record.{nodeAt, brokenRecord, nodeOf}
 use Rattle.protocol.specs.Answer.{Outcome, accepted, refuse}
 use Rattle.protocol.specs.Node.{Node}
 use Rattle.protocol.specs.Offer.{claimsTooMuch, deliverable, deliveredBefore, heldAlready, holding, noRoom, notForMe, offer}

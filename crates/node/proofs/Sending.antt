@@ -21,7 +21,7 @@ use Rattle.matrix.specs.Matrix.{Matrix, clear, count}
 use Rattle.matrix.specs.Message.{Message, number, userMessage}
 use Rattle.node.specs.Answers.{AfterSend, afterSend}
 use Rattle.node.specs.Calls.{acceptSend, refusal, refuseSend, sendCall}
-use Rattle.node.specs.Checks.{sendRefusal}
+use Rattle.node.specs.CallRefusals.{sendRefusal}
 use Rattle.node.specs.Record.{brokenRecord, nodeOf}
 use Rattle.node.specs.Sizes.{outSize}
 use Rattle.protocol.specs.Answer.{Outcome, accepted, refuse}

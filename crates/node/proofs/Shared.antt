@@ -8,11 +8,11 @@ use borrow.Author.Tests.{eq-eqb, ne-eqb}
 use lib.Dec.{eqb, eqb→eq}
 use lib.ListN.{length}
 use Rattle.holdback.proofs.Held.{queue-kept}
-use Rattle.holdback.specs.Check.{wrongQueue}
-use Rattle.holdback.specs.Checked.{CheckedQueue}
+use Rattle.holdback.specs.WrongQueue.{wrongQueue}
+use Rattle.holdback.specs.CheckedQueue.{CheckedQueue}
 use Rattle.holdback.specs.Slots.{heldFrames, laid, queueSize}
 use Rattle.matrix.specs.Array.{entry, vector}
-use Rattle.node.specs.Checks.{recordRefusal}
+use Rattle.node.specs.CallRefusals.{recordRefusal}
 use Rattle.node.specs.Record.{brokenRecord, nodeOf}
 use Rattle.rules.proofs.Facts.{Unbroken, unbroken}
 use Rattle.wire.proofs.Tests.{is-false, not-not, or-not, skipped}

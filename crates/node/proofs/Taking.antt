@@ -10,8 +10,8 @@ use lib.ListN.{drop, getD, length, length-drop, length-set, set, take}
 use lib.Seq.{ext-getD, getD-set-other, getD-set-same, length-take-le}
 use Rattle.frame.proofs.Reading.{kind-again}
 use Rattle.arrival.proofs.Arrived.{decode-from}
-use Rattle.arrival.proofs.Sound.{readable, sender-below}
-use Rattle.arrival.specs.Checked.{Checked}
+use Rattle.arrival.proofs.Sound.{readable, sender-below, Inside as Standing}
+use Rattle.arrival.specs.CheckedFrame.{CheckedFrame}
 use Rattle.arrival.specs.View.{nodeWith}
 use Rattle.frame.proofs.Frames.{frames-nil}
 use Rattle.frame.proofs.Lookup.{look-each}
@@ -34,11 +34,10 @@ use Rattle.wire.proofs.Tests.{cond-other, cond-same}
 use Rattle.wire.proofs.Trailer.{trailed}
 use Rattle.wire.specs.Bytes.{put}
 use Rattle.wire.specs.Limits.{maxBody, maxCount}
-use Rattle.arrival.proofs.Sound.{Inside as Standing}
 use Rattle.node.specs.declared.Delivered.{Delivered}
 
 -- the entries of a sound frame are zero outside the twelve rows and columns, and keep the limit
-module _ (s : List ℕ) (c : Checked s) where
+module _ (s : List ℕ) (c : CheckedFrame s) where
   abbrev entries : Matrix
   entries = decode s .entries
 
@@ -76,11 +75,11 @@ merge-limit j m e k p q x y = go (ℕ-discrete y j)
     go (no a) = rw (merge-max j m e x y a) (omega (arith, p x y, q x y))
 
 -- the array after a merge has the merged matrix
-merged-back : (s : List ℕ) (j : ℕ) (m m₁ : List ℕ) → Checked s → m₁ ≡ flat (merge j (entry m) (decode s .entries)) → entry m₁ ≡ merge j (entry m) (decode s .entries)
+merged-back : (s : List ℕ) (j : ℕ) (m m₁ : List ℕ) → CheckedFrame s → m₁ ≡ flat (merge j (entry m) (decode s .entries)) → entry m₁ ≡ merge j (entry m) (decode s .entries)
 merged-back s j m m₁ c e =
     ap entry e ∙ entry-back (merge j (entry m) (decode s .entries)) (inside-merge j (entry m) (decode s .entries) (inside-entry m) (entries-inside s c))
 
-pub merged-limit : (s : List ℕ) (j : ℕ) (m m₁ : List ℕ) → Checked s → ((x y : ℕ) → entry m x y ≤ maxCount) → m₁ ≡ flat (merge j (entry m) (decode s .entries)) → (x y : ℕ) → entry m₁ x y ≤ maxCount
+pub merged-limit : (s : List ℕ) (j : ℕ) (m m₁ : List ℕ) → CheckedFrame s → ((x y : ℕ) → entry m x y ≤ maxCount) → m₁ ≡ flat (merge j (entry m) (decode s .entries)) → (x y : ℕ) → entry m₁ x y ≤ maxCount
 merged-limit s j m m₁ c h e x y =
     rw (merged-back s j m m₁ c e) (merge-limit j (entry m) (decode s .entries) maxCount h (entries-limit s c) x y)
 
@@ -93,7 +92,7 @@ pub learn-extra : (kind me n cap : ℕ) (m out : List ℕ) (e : Matrix) → (kin
 learn-extra kind me n cap m out e h l =
     rw (ne-eqb kind 1 h) (sym (flat-back m l), rw frames-nil (sym (put-nil out 0)), rw frames-nil refl, refl)
 
-pub learn-user : (s : List ℕ) (kind me n cap : ℕ) (m m₁ m₂ out out₁ : List ℕ) (at extras : ℕ) → Checked s → kind ≡ 1 → m₁ ≡ flat (merge me (entry m) (decode s .entries))
+pub learn-user : (s : List ℕ) (kind me n cap : ℕ) (m m₁ m₂ out out₁ : List ℕ) (at extras : ℕ) → CheckedFrame s → kind ≡ 1 → m₁ ≡ flat (merge me (entry m) (decode s .entries))
     → (let t : Trimmed = trimFor 12 me n cap (entry m₁) in (m₂ ≡ flat (t .matrix)) × (out₁ ≡ put out 0 (framesOf (t .extras))) × (at ≡ 0 + length (framesOf (t .extras))) × (extras ≡ length (t .extras)))
     → Learned (learn (kindOf kind) (nodeWith me n cap m [] []) (decode s .entries)) m₂ out out₁ at extras
 learn-user s kind me n cap m m₁ m₂ out out₁ at extras c k e w =
@@ -116,7 +115,7 @@ pub record Bodied (s : List ℕ) (h : Header) : Type 0 where
   pub kind : kindByte (kindOf (h .kind)) ≡ h .kind
   pub size : length (take (h .b) (drop (8 + 6 * h .e) s)) ≡ h .b
 
-pub bodied : (s : List ℕ) (h : Header) → Checked s → h ≡ header s → Bodied s h
+pub bodied : (s : List ℕ) (h : Header) → CheckedFrame s → h ≡ header s → Bodied s h
 bodied s h c e =
     let k = passes-kept (c .n) (c .cap) s (c .passes) in
     let b : ℕ = header s .b in
@@ -135,7 +134,7 @@ pub body-part : (s : List ℕ) (h : Header) → take (8 + 6 * h .e + h .b - (8 +
 body-part s h = let e : 8 + 6 * h .e + h .b - (8 + 6 * h .e) ≡ h .b = omega arith in rw e
 
 -- the sender of a sound frame
-pub from-below : (s : List ℕ) → Checked s → decode s .from < 12
+pub from-below : (s : List ℕ) → CheckedFrame s → decode s .from < 12
 from-below s c = rw (decode-from s (header s) refl) (sender-below s (header s) c refl)
 
 -- what a frame that is taken in leaves
@@ -146,7 +145,7 @@ module _ (s : List ℕ) (h : Header) (me n cap : ℕ) (m : List ℕ) where
   abbrev t : Trimmed
   t = learn (g .kind) (nodeWith me n cap m [] []) (g .entries)
 
-  pub taken-in : (m₁ out out₁ body body₁ : List ℕ) (tried k at extras : ℕ) → Checked s → h ≡ header s → k ≡ number (decode s)
+  pub taken-in : (m₁ out out₁ body body₁ : List ℕ) (tried k at extras : ℕ) → CheckedFrame s → h ≡ header s → k ≡ number (decode s)
       → Learned (learn (kindOf (h .kind)) (nodeWith me n cap m [] []) (decode s .entries)) m₁ out out₁ at extras
       → body₁ ≡ put body 0 (take (8 + 6 * h .e + h .b - (8 + 6 * h .e)) (drop (8 + 6 * h .e) s))
       → (_≡_ {A = Delivered} (record { kind = h .kind; from = h .from; number = k; tried = tried; body = h .b; bytes = at; extras = extras })

@@ -17,7 +17,7 @@ use Rattle.frame.proofs.Written.{length-encode}
 use Rattle.frame.specs.Frame.{decode}
 use Rattle.frame.specs.Frames.{framesOf}
 use Rattle.frame.specs.Header.{header}
-use Rattle.arrival.specs.Checked.{Checked}
+use Rattle.arrival.specs.CheckedFrame.{CheckedFrame}
 use Rattle.holdback.proofs.Parts.{queue-frame}
 use Rattle.holdback.proofs.Queues.{found-held}
 use Rattle.holdback.proofs.Searched.{found-none}
@@ -37,7 +37,8 @@ use Rattle.node.proofs.Delivering.{Ready, deliver-accepted, deliver-rea
 use Rattle.node.proofs.Taking.{bodied}
 use Rattle.node.specs.Answers.{AfterSend, AfterOffer, AfterDeliver}
 use Rattle.node.specs.Calls.{acceptDeliver, deliverCall, offerCall, sendCall}
-use Rattle.node.specs.Checks.{deliverRefusal, nodeAt, offerRefusal, sendRefusal, shortOutputs}
+use Rattle.node.specs.CallRefusals.{deliverRefusal, offerRefusal, sendRefusal, shortOutputs}
+use Rattle.node.specs.Record.{nodeAt}
 use Rattle.node.specs.declared.Node.{Node as Record}
 use Rattle.node.specs.declared.Delivered.{Delivered}
 use Rattle.node.specs.declared.SendAnswer.{SendAnswer}
@@ -125,7 +126,7 @@ learn-room user d e = trim-1008 (d .me) (d .n) (d .cap) (merge (d .me) (d .matri
 learn-room extra d e = rw frames-nil (omega arith)
 
 -- the body of a sound frame
-body-small : (s : List ℕ) → Checked s → length (decode s .body) ≤ maxBody
+body-small : (s : List ℕ) → CheckedFrame s → length (decode s .body) ≤ maxBody
 unfolding decode
 body-small s c = let b = bodied s (header s) c refl in omega (arith, b .size, b .short)
 

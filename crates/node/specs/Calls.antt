@@ -19,7 +19,7 @@ use Rattle.protocol.specs.Send.{send}
 use Rattle.protocol.specs.Offer.{offer}
 use Rattle.protocol.specs.Deliver.{deliver}
 use Rattle.holdback.specs.Slots.{queueSize, laid, heldFrames, heldMessages, without}
-use Rattle.holdback.specs.Check.{wrongQueue}
+use Rattle.holdback.specs.WrongQueue.{wrongQueue}
 use Rattle.node.specs.declared.Node.{Node as Record}
 use Rattle.node.specs.declared.SendAnswer.the-variants as sendAnswer
 use Rattle.node.specs.declared.OfferAnswer.the-variants as offerAnswer

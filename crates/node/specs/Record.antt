@@ -1,11 +1,12 @@
 -- The record, its rules (check 2), and the protocol's node that it stands for.
+use Prim.Native.Nat.{ℕ}
 use mathlib.Core.Bool.{Bool}
 use mathlib.Core.List.{List}
-use lib.ListN.{length}
-use Rattle.matrix.specs.Array.{listFrom, flat, entry, vector}
+use Rattle.matrix.specs.Array.{entry, vector}
 use Rattle.matrix.specs.Message.{Message}
 use Rattle.protocol.specs.Node.{Node}
 use Rattle.rules.specs.Rules.{brokenRules}
+use Rattle.holdback.specs.Slots.{heldMessages}
 use Rattle.arrival.specs.View.{nodeWith}
 use Rattle.node.specs.declared.Node.{Node as Record}
 
@@ -17,6 +18,6 @@ brokenRecord r = brokenRules (r .me) (r .n) (r .cap) (entry (r .m)) (vector (r .
 abbrev pub nodeOf : Record → List Message → Node
 nodeOf r held = nodeWith (r .me) (r .n) (r .cap) (r .m) (r .deliv) held
 
--- the record of a protocol's node
-abbrev pub recordOf : Node → Record
-recordOf d = record { me = d .me; n = d .n; cap = d .cap; m = flat (d .matrix); deliv = listFrom 0 12 (d .deliv); held = length (d .held) }
+-- the protocol's node of a record and its queue
+abbrev pub nodeAt : Record → List ℕ → Node
+nodeAt r q = nodeOf r (heldMessages (r .held) q)

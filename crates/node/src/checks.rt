@@ -2,7 +2,7 @@
 use super::Node;
 ghost use mathlib.Core.Path.{_≡_};
 ghost use lib.ListN.{length};
-ghost use Rattle.node.specs.Checks.{recordRefusal};
+ghost use Rattle.node.specs.CallRefusals.{recordRefusal};
 
 /// The refusals that look at record and queue: 2 to 4, and 0 where none is met. Another lent buffer being too short counts as 3.
 pub fn record_refusal<'a>(

@@ -18,11 +18,11 @@ ghost use Rattle.frame.specs.Frame.{decode};
 ghost use Rattle.frame.specs.Frames.{framesOf};
 ghost use Rattle.protocol.specs.Trim.{Trimmed};
 ghost use Rattle.protocol.specs.Deliver.{countUp, learn};
-ghost use Rattle.arrival.specs.Checked.{Checked};
+ghost use Rattle.arrival.specs.CheckedFrame.{CheckedFrame};
 ghost use Rattle.arrival.specs.View.{nodeWith};
 ghost use Rattle.node.specs.Answers.{afterDeliver};
 ghost use Rattle.node.specs.Calls.{deliverCall};
-ghost use Rattle.node.specs.Checks.{deliverRefusal, shortOutputs};
+ghost use Rattle.node.specs.CallRefusals.{deliverRefusal, shortOutputs};
 
 // Whether the frame output or the body output is too short.
 fn short_outputs(out: usize, body: usize) -> bool
@@ -60,7 +60,7 @@ fn refusal<'a>(
 
 // Takes in the entries of a delivered frame: those of a user frame are merged and the matrix is trimmed; an extra frame changes nothing.
 fn learn(m: &mut [u32; 144], out: &mut [u8], s: &[u8], kind: u8, me: u8, n: u8, cap: u8) -> Issued
-    requires { ⌜ (length (now m) ≡ 144) × Checked (now s) × (me < 12) × (1008 ≤ length (now out)) × ((x y : ℕ) → entry (now m) x y ≤ maxCount) ⌝ }
+    requires { ⌜ (length (now m) ≡ 144) × CheckedFrame (now s) × (me < 12) × (1008 ≤ length (now out)) × ((x y : ℕ) → entry (now m) x y ≤ maxCount) ⌝ }
     ensures { λ r. ⌜ (let t : Trimmed = learn (kindOf kind) (nodeWith me n cap (now (m .entry)) [] []) (decode (now (s .entry)) .entries) in (now (m .exit) ≡ flat (t .matrix)) × (now (out .exit) ≡ put (now (out .entry)) 0 (framesOf (t .extras))) × (r .at ≡ length (framesOf (t .extras))) × (r .extras ≡ length (t .extras))) ⌝ }
 {
     if kind != 1 {
@@ -89,7 +89,7 @@ fn take_in(
     n: u8,
     cap: u8,
 ) -> Delivered
-    requires { ⌜ (length (now m) ≡ 144) × Checked (now s) × (me < 12) × (1008 ≤ length (now out)) × ((x y : ℕ) → entry (now m) x y ≤ maxCount) × (maxBody ≤ length (now body)) ⌝ }
+    requires { ⌜ (length (now m) ≡ 144) × CheckedFrame (now s) × (me < 12) × (1008 ≤ length (now out)) × ((x y : ℕ) → entry (now m) x y ≤ maxCount) × (maxBody ≤ length (now body)) ⌝ }
     ensures { λ r. ⌜ (let g : Message = decode (now (s .entry)) in let t : Trimmed = learn (g .kind) (nodeWith me n cap (now (m .entry)) [] []) (g .entries) in (r ≡ record { kind = kindByte (g .kind); from = g .from; number = number g; tried = tried; body = length (g .body); bytes = length (framesOf (t .extras)); extras = length (t .extras) }) × (now (m .exit) ≡ flat (t .matrix)) × (now (out .exit) ≡ put (now (out .entry)) 0 (framesOf (t .extras))) × (now (body .exit) ≡ put (now (body .entry)) 0 (g .body))) ⌝ }
 {
     let h = frame::header::read(s);

@@ -9,12 +9,12 @@ ghost use Rattle.frame.specs.Frame.{decode};
 ghost use Rattle.protocol.specs.Node.{Node as State};
 ghost use Rattle.protocol.specs.Offer.{deliverable};
 ghost use Rattle.holdback.specs.Slots.{heldMessages};
-ghost use Rattle.holdback.specs.Checked.{CheckedQueue};
+ghost use Rattle.holdback.specs.CheckedQueue.{CheckedQueue};
 ghost use Rattle.arrival.specs.View.{nodeWith};
-ghost use Rattle.arrival.specs.Checked.{Checked};
+ghost use Rattle.arrival.specs.CheckedFrame.{CheckedFrame};
 ghost use Rattle.node.specs.Answers.{afterOffer};
 ghost use Rattle.node.specs.Calls.{offerCall};
-ghost use Rattle.node.specs.Checks.{holdRefusal};
+ghost use Rattle.node.specs.CallRefusals.{holdRefusal};
 
 /// Frames held where only a deliverable one is still taken.
 const LAST_SLOT: usize = wire::MAX_HELD - 1;
@@ -34,7 +34,7 @@ fn hold_refusal<'a>(
     queue: &[u8],
     frame: &[u8],
 ) -> Verdict
-    requires { ⌜ CheckedQueue held (now queue) × Checked (now frame) ⌝ }
+    requires { ⌜ CheckedQueue held (now queue) × CheckedFrame (now frame) ⌝ }
     ensures { λ r. ⌜ ((n cap : ℕ) → (let d : State = nodeWith me n cap (now (m .entry)) (now (deliv .entry)) (heldMessages held (now (queue .entry))) in (r .why ≡ holdRefusal d (decode (now (frame .entry)))) × (r .why ≡ 0 → r .ready ≡ deliverable d (decode (now (frame .entry)))))) ⌝ }
 {
     let why = arrival::refusal(frame, me, m, deliv);

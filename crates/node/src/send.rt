@@ -7,7 +7,7 @@ ghost use mathlib.Core.Path.{_≡_};
 ghost use lib.ListN.{length};
 ghost use Rattle.node.specs.Answers.{afterSend};
 ghost use Rattle.node.specs.Calls.{sendCall};
-ghost use Rattle.node.specs.Checks.{sendRefusal};
+ghost use Rattle.node.specs.CallRefusals.{sendRefusal};
 
 // The refusal of a send: the first check that is met, and 0 where none is.
 fn refusal<'a>(

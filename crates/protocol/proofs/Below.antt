@@ -11,8 +11,8 @@ use lib.Dec.{eqb, T}
 use Rattle.protocol.specs.Answer.{Answer}
 use Rattle.protocol.specs.Deliver.{countUp}
 use Rattle.protocol.specs.Demand3.{answersAt}
-use Rattle.protocol.specs.Node.{someBelow, eachBelow}
-use Rattle.protocol.specs.World.{Event, put}
+use Rattle.protocol.specs.Node.{someBelow, eachBelow, update}
+use Rattle.protocol.specs.World.{Event}
 use Rattle.wire.proofs.Tests.{cond-elim, cond-yes, eq→eqb, cond-same, cond-other, and-T, T-and, not-or, or-not}
 
 -- each passes the test, as a test and as a fact
@@ -44,12 +44,12 @@ some-none (suc k) p t x h = let r = or-not (someBelow k p) (p k) t in go (r .1) 
     go last ih (no e) = ih (omega arith)
 
 -- the value that was put
-pub put-same : {A : Type 0} (v : ℕ → A) (i : ℕ) (a : A) → put v i a i ≡ a
-put-same v i a = cond-same i a (v i)
+pub update-same : {A : Type 0} (v : ℕ → A) (i : ℕ) (a : A) → update v i a i ≡ a
+update-same v i a = cond-same i a (v i)
 
 -- the other values stay
-pub put-other : {A : Type 0} (v : ℕ → A) (i : ℕ) (a : A) (k : ℕ) → k ≢ i → put v i a k ≡ v k
-put-other v i a k h = cond-other k i a (v k) h
+pub update-other : {A : Type 0} (v : ℕ → A) (i : ℕ) (a : A) (k : ℕ) → k ≢ i → update v i a k ≡ v k
+update-other v i a k h = cond-other k i a (v k) h
 
 -- the count that was raised
 pub countUp-same : (i : ℕ) (v : ℕ → ℕ) → countUp i v i ≡ suc (v i)

@@ -9,19 +9,19 @@ use native.Mathlib.Decide.{ℕ-discrete}
 use native.Mathlib.Omega.{arith}
 use lib.ListN.{getElem?, length}
 use Rattle.matrix.specs.Message.{Message}
-use Rattle.protocol.proofs.Below.{put-same, put-other, answers-here, answers-other}
+use Rattle.protocol.proofs.Below.{update-same, update-other, answers-here, answers-other}
 use Rattle.protocol.proofs.Good.{stateOf, SoundIssue, AllSound, Origin, SoundQueue, SoundNode, Kept, Good, invariant-cong}
 use Rattle.protocol.proofs.Lists.{at-none, at-left, Snoc, at-snoc, at-append, length-snoc, map-at}
 use Rattle.protocol.proofs.Quiet.{quiet-invariant}
 use Rattle.protocol.proofs.State.{Invariant}
 use Rattle.protocol.specs.Answer.{Answer, refused, accepted, delivery, refuse}
 use Rattle.protocol.specs.Demand3.{offersAccepted, deliveries}
-use Rattle.protocol.specs.Node.{Node}
-use Rattle.protocol.specs.World.{Step, offers, Issue, Event, World, IssueAt, issuedBy, put, afterStep}
+use Rattle.protocol.specs.Node.{Node, update}
+use Rattle.protocol.specs.World.{Step, offers, Issue, Event, World, IssueAt, issuedBy, afterStep}
 
 -- the world after a step of node i that leaves it as d, issues out, and is told of as e
 abbrev pub grown : World → ℕ → Node → List Message → Event → World
-grown w i d out e = record { nodes = put (w .nodes) i d; log = w .log ++ map (issuedBy (length (w .history))) out; history = w .history ++ (e ∷ []) }
+grown w i d out e = record { nodes = update (w .nodes) i d; log = w .log ++ map (issuedBy (length (w .history))) out; history = w .history ++ (e ∷ []) }
 
 -- a longer log and history keep the offer by which a message came
 origin-grow : (log r : List Issue) (history : List Event) (e : Event) (m : Message) → Origin log history m → Origin (log ++ r) (history ++ (e ∷ [])) m
@@ -73,8 +73,8 @@ module _ (n : ℕ) (caps : ℕ → ℕ) (w : World) (g : Good n caps w) (i : ℕ
       node k h = go (ℕ-discrete k i)
         where
           go : Dec (k ≡ i) → SoundNode n (caps k) (w′ .log) (w′ .history) k (w′ .nodes k)
-          go (yes q) = rw (q, put-same (w .nodes) i d) ok
-          go (no q) = rw (put-other (w .nodes) i d k q) (node-grow n (caps k) (w .log) (map (issuedBy (length (w .history))) out) (w .history) e k (w .nodes k) (λ z. q (sym z ∙ here)) (g .node k h))
+          go (yes q) = rw (q, update-same (w .nodes) i d) ok
+          go (no q) = rw (update-other (w .nodes) i d k q) (node-grow n (caps k) (w .log) (map (issuedBy (length (w .history))) out) (w .history) e k (w .nodes k) (λ z. q (sym z ∙ here)) (g .node k h))
 
       sound′ : (p : ℕ) (l : Issue) → IssueAt w′ p l → SoundIssue n caps (l .message)
       sound′ p l a = go (at-append (w .log) (map (issuedBy (length (w .history))) out) p l a)
@@ -84,8 +84,8 @@ module _ (n : ℕ) (caps : ℕ → ℕ) (w : World) (g : Good n caps w) (i : ℕ
           go (inr h) = let r = map-at (issuedBy (length (w .history))) out (h .0) l (h .1) in subst (λ (z : Issue). SoundIssue n caps (z .message)) (r .2) (sound (h .0) (r .0) (r .1))
 
       kept : (m : Message) → Kept (w .nodes (m .to)) m → Dec (m .to ≡ i) → Kept (w′ .nodes (m .to)) m
-      kept m h (yes q) = subst (λ (k : ℕ). Kept (w′ .nodes k) m) (sym q) (rw (put-same (w .nodes) i d) (keep .old m (subst (λ (k : ℕ). Kept (w .nodes k) m) q h)))
-      kept m h (no q) = rw (put-other (w .nodes) i d (m .to) q) h
+      kept m h (yes q) = subst (λ (k : ℕ). Kept (w′ .nodes k) m) (sym q) (rw (update-same (w .nodes) i d) (keep .old m (subst (λ (k : ℕ). Kept (w .nodes k) m) q h)))
+      kept m h (no q) = rw (update-other (w .nodes) i d (m .to) q) h
 
       taken′ : (t j p : ℕ) (x : Event) → getElem? (w′ .history) t ≡ some x → x .step ≡ offers j p → accepted (x .answer) ≡ true → (l : Issue) × IssueAt w′ p l × Kept (w′ .nodes (l .message .to)) (l .message)
       taken′ t j p x a b c = go (at-snoc (w .history) e t x a)
@@ -98,7 +98,7 @@ module _ (n : ℕ) (caps : ℕ → ℕ) (w : World) (g : Good n caps w) (i : ℕ
               let r = keep .new j p (ap (λ (z : Event). z .step) (sym (h .1)) ∙ b) (ap (λ (z : Event). accepted (z .answer)) (sym (h .1)) ∙ c) in (
                 r .0,
                 at-left (w .log) (map (issuedBy (length (w .history))) out) p (r .0) (r .1),
-                subst (λ (k : ℕ). Kept (w′ .nodes k) (r .0 .message)) (sym (r .2)) (rw (put-same (w .nodes) i d) (r .3)),
+                subst (λ (k : ℕ). Kept (w′ .nodes k) (r .0 .message)) (sym (r .2)) (rw (update-same (w .nodes) i d) (r .3)),
               )
 
 -- a step that takes nothing, at a node whose vector and queue stay
@@ -109,16 +109,16 @@ keeps-all w i d e quiet a b = record { old = λ m h. rw (a, b) h; new = λ j p s
 pub quiet-grown : (n : ℕ) (caps : ℕ → ℕ) (w : World) → Good n caps w → (i : ℕ) (d : Node) (e : Event) → delivery (e .answer) ≡ none → d .matrix ≡ w .nodes i .matrix → d .deliv ≡ w .nodes i .deliv
     → Invariant (stateOf (grown w i d [] e))
 quiet-grown n caps w g i d e q m v =
-    invariant-cong (w .log) (w .log ++ []) (w .history ++ (e ∷ [])) (λ k. w .nodes k .matrix) (λ k. put (w .nodes) i d k .matrix) (λ k. w .nodes k .deliv) (λ k. put (w .nodes) i d k .deliv)
+    invariant-cong (w .log) (w .log ++ []) (w .history ++ (e ∷ [])) (λ k. w .nodes k .matrix) (λ k. update (w .nodes) i d k .matrix) (λ k. w .nodes k .deliv) (λ k. update (w .nodes) i d k .deliv)
     (sym (append-nil (w .log))) (λ k x y. same k x y (ℕ-discrete k i)) (λ k x. same-deliv k x (ℕ-discrete k i)) (quiet-invariant (stateOf w) (g .invariant) e q)
   where
-    same : (k x y : ℕ) → Dec (k ≡ i) → w .nodes k .matrix x y ≡ put (w .nodes) i d k .matrix x y
-    same k x y (yes r) = rw (r, put-same (w .nodes) i d, m)
-    same k x y (no r) = rw (put-other (w .nodes) i d k r)
+    same : (k x y : ℕ) → Dec (k ≡ i) → w .nodes k .matrix x y ≡ update (w .nodes) i d k .matrix x y
+    same k x y (yes r) = rw (r, update-same (w .nodes) i d, m)
+    same k x y (no r) = rw (update-other (w .nodes) i d k r)
 
-    same-deliv : (k x : ℕ) → Dec (k ≡ i) → w .nodes k .deliv x ≡ put (w .nodes) i d k .deliv x
-    same-deliv k x (yes r) = rw (r, put-same (w .nodes) i d, v)
-    same-deliv k x (no r) = rw (put-other (w .nodes) i d k r)
+    same-deliv : (k x : ℕ) → Dec (k ≡ i) → w .nodes k .deliv x ≡ update (w .nodes) i d k .deliv x
+    same-deliv k x (yes r) = rw (r, update-same (w .nodes) i d, v)
+    same-deliv k x (no r) = rw (update-other (w .nodes) i d k r)
 
 -- nothing was issued
 pub none-sound : (n : ℕ) (caps : ℕ → ℕ) → AllSound n caps []

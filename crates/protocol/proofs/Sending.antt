@@ -12,7 +12,7 @@ use Rattle.matrix.proofs.Columns.{MatrixRules, clear-rules, clear-one}
 use Rattle.matrix.proofs.Matrix.{clear-mine, clear-gone, clear-keep}
 use Rattle.matrix.specs.Matrix.{Matrix, columnCount, clear}
 use Rattle.matrix.specs.Message.{Message, userMessage, InRange}
-use Rattle.protocol.proofs.Below.{put-same, put-other, answers-here}
+use Rattle.protocol.proofs.Below.{update-same, update-other, answers-here}
 use Rattle.protocol.proofs.Good.{stateOf, SoundIssue, AllSound, SoundNode, Good, invariant-cong}
 use Rattle.protocol.proofs.Grown.{grown, queue-grow, good-grown, keeps-all, refuse-good, nodeAt, node-eq}
 use Rattle.protocol.proofs.Issuing.{Issuing, UserStep, issue-invariant}
@@ -23,10 +23,10 @@ use Rattle.protocol.proofs.State.{Invariant}
 use Rattle.protocol.proofs.Trim.{Rounds, trim-rounds, trim-ends, rounds-rules, rounds-row}
 use Rattle.protocol.specs.Answer.{sent, Outcome, refuse}
 use Rattle.protocol.specs.Demand3.{offersAccepted, deliveries}
-use Rattle.protocol.specs.Node.{Node, atLimit}
+use Rattle.protocol.specs.Node.{Node, atLimit, update}
 use Rattle.protocol.specs.Send.{badDestination, longBody, sending, send}
 use Rattle.protocol.specs.Trim.{Trimmed, trimFor}
-use Rattle.protocol.specs.World.{sends, Event, World, issuedBy, put, afterStep}
+use Rattle.protocol.specs.World.{sends, Event, World, issuedBy, afterStep}
 use Rattle.wire.proofs.Tests.{not-not, cond-elim, neqb→ne, or-not}
 use Rattle.wire.specs.Limits.{maxNodes, maxBody}
 
@@ -101,19 +101,19 @@ module _ (n : ℕ) (caps : ℕ → ℕ) (w : World) (g : Good n caps w) (i : ℕ
   send-invariant : Invariant (stateOf (grown w i d (f ∷ r .extras) e))
   send-invariant =
       invariant-cong (w .log ++ (issuedBy t f ∷ []) ++ map (issuedBy t) (r .extras)) (w .log ++ map (issuedBy t) (f ∷ r .extras)) (w .history ++ (e ∷ []))
-      (putMatrix M₁ i (r .matrix)) (λ k. put (w .nodes) i d k .matrix) (λ k. w .nodes k .deliv) (λ k. put (w .nodes) i d k .deliv)
+      (putMatrix M₁ i (r .matrix)) (λ k. update (w .nodes) i d k .matrix) (λ k. w .nodes k .deliv) (λ k. update (w .nodes) i d k .deliv)
       (append-assoc (w .log) (issuedBy t f ∷ []) (map (issuedBy t) (r .extras))) (λ k x y. same k x y (ℕ-discrete k i)) (λ k x. same-deliv k x (ℕ-discrete k i))
       (rounds-invariant n (caps i) i t (clear i j m) (r .extras) (r .matrix) rounds (w .log ++ (issuedBy t f ∷ [])) (w .history ++ (e ∷ [])) M₁ (λ k. w .nodes k .deliv)
       (λ x y. putMatrix-same M₀ i (clear i j m) x y)
       (issue-invariant (afterQuiet (stateOf w) e) (quiet-invariant (stateOf w) (g .invariant) e refl) M₁ (issuedBy t f) user-issuing user-step))
     where
-      same : (k x y : ℕ) → Dec (k ≡ i) → putMatrix M₁ i (r .matrix) k x y ≡ put (w .nodes) i d k .matrix x y
-      same k x y (yes q) = rw (q, put-same (w .nodes) i d) (putMatrix-same M₁ i (r .matrix) x y)
-      same k x y (no q) = rw (put-other (w .nodes) i d k q) (putMatrix-other M₁ i (r .matrix) k x y q ∙ putMatrix-other M₀ i (clear i j m) k x y q)
+      same : (k x y : ℕ) → Dec (k ≡ i) → putMatrix M₁ i (r .matrix) k x y ≡ update (w .nodes) i d k .matrix x y
+      same k x y (yes q) = rw (q, update-same (w .nodes) i d) (putMatrix-same M₁ i (r .matrix) x y)
+      same k x y (no q) = rw (update-other (w .nodes) i d k q) (putMatrix-other M₁ i (r .matrix) k x y q ∙ putMatrix-other M₀ i (clear i j m) k x y q)
 
-      same-deliv : (k x : ℕ) → Dec (k ≡ i) → w .nodes k .deliv x ≡ put (w .nodes) i d k .deliv x
-      same-deliv k x (yes q) = rw (q, put-same (w .nodes) i d)
-      same-deliv k x (no q) = rw (put-other (w .nodes) i d k q)
+      same-deliv : (k x : ℕ) → Dec (k ≡ i) → w .nodes k .deliv x ≡ update (w .nodes) i d k .deliv x
+      same-deliv k x (yes q) = rw (q, update-same (w .nodes) i d)
+      same-deliv k x (no q) = rw (update-other (w .nodes) i d k q)
 
   -- row i grows by one at most
   row′ : (y : ℕ) → r .matrix i y ≤ suc t

@@ -9,7 +9,7 @@ use native.Mathlib.Omega.{arith}
 use lib.ListN.{length, getElem?}
 use Rattle.matrix.specs.Matrix.{Matrix}
 use Rattle.matrix.specs.Message.{Message, number, InRange}
-use Rattle.protocol.proofs.Below.{put-same, put-other, countUp-same, countUp-other, countUp-le, answers-here}
+use Rattle.protocol.proofs.Below.{update-same, update-other, countUp-same, countUp-other, countUp-le, answers-here}
 use Rattle.protocol.proofs.Bounds.{entry-bound}
 use Rattle.protocol.proofs.Delivering.{Delivering, deliver-invariant}
 use Rattle.protocol.proofs.Good.{stateOf, SoundIssue, SoundQueue, SoundNode, Kept, Good, invariant-cong}
@@ -24,10 +24,10 @@ use Rattle.protocol.proofs.Trim.{Rounds, rounds-rules, rounds-row}
 use Rattle.protocol.specs.Answer.{label, nothing, delivered, Outcome, refuse}
 use Rattle.protocol.specs.Deliver.{Search, absent, found, search, countUp, learn, conclude, deliver}
 use Rattle.protocol.specs.Demand3.{offersAccepted, deliveries}
-use Rattle.protocol.specs.Node.{Node, atLimit}
+use Rattle.protocol.specs.Node.{Node, atLimit, update}
 use Rattle.protocol.specs.Offer.{deliverable}
 use Rattle.protocol.specs.Trim.{Trimmed}
-use Rattle.protocol.specs.World.{delivers, Issue, Event, World, IssueAt, issuedBy, put, afterStep}
+use Rattle.protocol.specs.World.{delivers, Issue, Event, World, IssueAt, issuedBy, afterStep}
 use Rattle.wire.proofs.Tests.{cond-elim}
 
 -- the delivery of the held message of issue p, at place h of its destination's queue
@@ -94,11 +94,11 @@ module _ (n : ℕ) (caps : ℕ → ℕ) (w : World) (g : Good n caps w) (p : ℕ
   rounds = learn-rounds (f .kind) d (f .from) (f .entries) hi (range .capFrom) (ok .rules) (sound .rules)
 
   -- the vector afterwards
-  deliv-here : (x : ℕ) → put (w .nodes) i d′ i .deliv x ≡ countUp (f .from) (w .nodes i .deliv) x
-  deliv-here x = rw (put-same (w .nodes) i d′)
+  deliv-here : (x : ℕ) → update (w .nodes) i d′ i .deliv x ≡ countUp (f .from) (w .nodes i .deliv) x
+  deliv-here x = rw (update-same (w .nodes) i d′)
 
   -- the causality argument's delivery
-  delivering : Delivering (stateOf w) G e (putMatrix M₀ i m₁) (λ k. put (w .nodes) i d′ k .deliv)
+  delivering : Delivering (stateOf w) G e (putMatrix M₀ i m₁) (λ k. update (w .nodes) i d′ k .deliv)
   delivering = record {
     place = p;
     at = at;
@@ -107,7 +107,7 @@ module _ (n : ℕ) (caps : ℕ → ℕ) (w : World) (g : Good n caps w) (p : ℕ
     node = refl;
     names = refl;
     counts = deliv-here (f .from) ∙ countUp-same (f .from) (w .nodes i .deliv);
-    otherNodes = λ k x ne. ap (λ (z : Node). z .deliv x) (put-other (w .nodes) i d′ k ne);
+    otherNodes = λ k x ne. ap (λ (z : Node). z .deliv x) (update-other (w .nodes) i d′ k ne);
     otherSenders = λ x ne. deliv-here x ∙ countUp-other (f .from) (w .nodes i .deliv) x ne;
     grow = λ k x y. grow k x y (ℕ-discrete k i);
     from = λ k x y. from k x y (ℕ-discrete k i);
@@ -135,14 +135,14 @@ module _ (n : ℕ) (caps : ℕ → ℕ) (w : World) (g : Good n caps w) (p : ℕ
   taking-invariant : Invariant (stateOf (grown w i d′ (r .extras) e))
   taking-invariant =
       invariant-cong (w .log ++ map (issuedBy t) (r .extras)) (w .log ++ map (issuedBy t) (r .extras)) (w .history ++ (e ∷ []))
-      (putMatrix (putMatrix M₀ i m₁) i (r .matrix)) (λ k. put (w .nodes) i d′ k .matrix) (λ k. put (w .nodes) i d′ k .deliv) (λ k. put (w .nodes) i d′ k .deliv)
+      (putMatrix (putMatrix M₀ i m₁) i (r .matrix)) (λ k. update (w .nodes) i d′ k .matrix) (λ k. update (w .nodes) i d′ k .deliv) (λ k. update (w .nodes) i d′ k .deliv)
       refl (λ k x y. same k x y (ℕ-discrete k i)) (λ k x. refl)
-      (rounds-invariant n (caps i) i t m₁ (r .extras) (r .matrix) rounds (w .log) (w .history ++ (e ∷ [])) (putMatrix M₀ i m₁) (λ k. put (w .nodes) i d′ k .deliv)
-      (λ x y. putMatrix-same M₀ i m₁ x y) (deliver-invariant (stateOf w) (g .invariant) G e (putMatrix M₀ i m₁) (λ k. put (w .nodes) i d′ k .deliv) delivering))
+      (rounds-invariant n (caps i) i t m₁ (r .extras) (r .matrix) rounds (w .log) (w .history ++ (e ∷ [])) (putMatrix M₀ i m₁) (λ k. update (w .nodes) i d′ k .deliv)
+      (λ x y. putMatrix-same M₀ i m₁ x y) (deliver-invariant (stateOf w) (g .invariant) G e (putMatrix M₀ i m₁) (λ k. update (w .nodes) i d′ k .deliv) delivering))
     where
-      same : (k x y : ℕ) → Dec (k ≡ i) → putMatrix (putMatrix M₀ i m₁) i (r .matrix) k x y ≡ put (w .nodes) i d′ k .matrix x y
-      same k x y (yes q) = rw (q, put-same (w .nodes) i d′) (putMatrix-same (putMatrix M₀ i m₁) i (r .matrix) x y)
-      same k x y (no q) = rw (put-other (w .nodes) i d′ k q) (putMatrix-other (putMatrix M₀ i m₁) i (r .matrix) k x y q ∙ putMatrix-other M₀ i m₁ k x y q)
+      same : (k x y : ℕ) → Dec (k ≡ i) → putMatrix (putMatrix M₀ i m₁) i (r .matrix) k x y ≡ update (w .nodes) i d′ k .matrix x y
+      same k x y (yes q) = rw (q, update-same (w .nodes) i d′) (putMatrix-same (putMatrix M₀ i m₁) i (r .matrix) x y)
+      same k x y (no q) = rw (update-other (w .nodes) i d′ k q) (putMatrix-other (putMatrix M₀ i m₁) i (r .matrix) k x y q ∙ putMatrix-other M₀ i m₁ k x y q)
 
   -- row i grows by one at most
   row′ : (y : ℕ) → r .matrix i y ≤ suc t

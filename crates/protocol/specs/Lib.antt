@@ -1,5 +1,5 @@
--- To believe, in document 01's order: Node (not `fresh`), Answer, Trim, Send, Offer, Deliver, the steps on messages; of World `put` alone.
--- The rest of World, Order and Demand3 are lists and demand 3 on messages, a step of the proof: the promise is demand 3 on bytes, in `causality`.
+-- To believe, in document 01's order: Node, Answer, Trim, Send, Offer, Deliver, the steps on messages.
+-- World, Order and Demand3 are lists and demand 3 on messages, a step of the proof: the promise is demand 3 on bytes, in `causality`.
 pub mod Node
 pub mod Answer
 pub mod Trim

@@ -1,7 +1,7 @@
 -- The node on messages: document 01's record with its matrix and vector as functions, and the held messages themselves.
 use Prim.Native.Nat.{ℕ, zero, suc}
-use mathlib.Core.Bool.{Bool, true, false, _&&_, _||_}
-use mathlib.Core.List.{List, []}
+use mathlib.Core.Bool.{Bool, true, false, cond, _&&_, _||_}
+use mathlib.Core.List.{List}
 use lib.Dec.{eqb}
 use Rattle.wire.specs.Limits.{maxNodes, maxCount}
 use Rattle.matrix.specs.Matrix.{Matrix}
@@ -16,10 +16,6 @@ pub record Node : Type 0 where
   pub deliv : ℕ → ℕ
   pub held : List Message
 
--- a fresh record: all zero but for me, n and cap
-abbrev pub fresh : ℕ → ℕ → ℕ → Node
-fresh me n cap = record { me = me; n = n; cap = cap; matrix = λ x y. 0; deliv = λ x. 0; held = [] }
-
 -- whether the test holds of some number below k
 abbrev pub someBelow : ℕ → (ℕ → Bool) → Bool
 someBelow zero p = false
@@ -29,6 +25,10 @@ someBelow (suc k) p = someBelow k p || p k
 abbrev pub eachBelow : ℕ → (ℕ → Bool) → Bool
 eachBelow zero p = true
 eachBelow (suc k) p = eachBelow k p && p k
+
+-- the function v, with a at i
+abbrev pub update : {A : Type 0} → (ℕ → A) → ℕ → A → ℕ → A
+update v i a k = cond (eqb k i) a (v k)
 
 -- refusal 5: an M entry in row me, or a DELIV entry, is 1,000,000,000
 unfoldable pub atLimit : Node → Bool

@@ -28,6 +28,8 @@ trimFor (suc k) me n cap m =
     let round : Trimmed = issuing (extraMessage me (fullest m) n cap m) (trimFor k me n cap (clear me (fullest m) m)) in
     cond (leb (count m) cap) (untouched m) round
 
--- twelve rounds are enough (proofs/Trim: trim-ends)
+-- twelve rounds are enough: more than cap entries are more than n, so the fullest column has two or more; a round takes it down to one,
+-- so none of the twelve columns is cleared twice. By the laws `trim-ends` and `trim-enough` (proofs/Trim), for every matrix that keeps
+-- the record rules, at most cap entries are left, and a further round would change nothing.
 abbrev pub trim : Node → Matrix → Trimmed
 trim d m = trimFor maxNodes (d .me) (d .n) (d .cap) m

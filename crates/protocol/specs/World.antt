@@ -4,10 +4,10 @@ use mathlib.Core.Bool.{cond}
 use mathlib.Core.List.{List, [], _∷_, _++_, map}
 use mathlib.Core.Option.{Option, none, some}
 use mathlib.Core.Path.{_≡_}
-use lib.Dec.{eqb, ltb}
+use lib.Dec.{ltb}
 use lib.ListN.{length, getElem?}
 use Rattle.matrix.specs.Message.{Message}
-use Rattle.protocol.specs.Node.{Node, fresh}
+use Rattle.protocol.specs.Node.{Node, update}
 use Rattle.protocol.specs.Answer.{Answer, issued, Outcome}
 use Rattle.protocol.specs.Send.{send}
 use Rattle.protocol.specs.Offer.{offer}
@@ -36,6 +36,10 @@ pub record World : Type 0 where
   pub log : List Issue
   pub history : List Event
 
+-- a fresh record: all zero but for me, n and cap
+abbrev pub fresh : ℕ → ℕ → ℕ → Node
+fresh me n cap = record { me = me; n = n; cap = cap; matrix = λ x y. 0; deliv = λ x. 0; held = [] }
+
 -- n nodes, each with its cap, all fresh
 abbrev pub start : ℕ → (ℕ → ℕ) → World
 start n caps = record { nodes = λ k. fresh k n (caps k); log = []; history = [] }
@@ -48,15 +52,11 @@ IssueAt w p g = getElem? (w .log) p ≡ some g
 abbrev pub issuedBy : ℕ → Message → Issue
 issuedBy t m = record { step = t; message = m }
 
--- the function v, with a at i
-abbrev pub put : {A : Type 0} → (ℕ → A) → ℕ → A → ℕ → A
-put v i a k = cond (eqb k i) a (v k)
-
 -- the world after the step s of node i had the outcome r
 abbrev pub afterStep : World → ℕ → Step → Outcome → World
 afterStep w i s r =
     record {
-      nodes = put (w .nodes) i (r .node);
+      nodes = update (w .nodes) i (r .node);
       log = w .log ++ map (issuedBy (length (w .history))) (issued (r .answer));
       history = w .history ++ (record { node = i; step = s; answer = r .answer } ∷ []);
     }

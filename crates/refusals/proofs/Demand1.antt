@@ -12,15 +12,15 @@ use lib.ListN.{length}
 use Rattle.frame.specs.Frame.{decode}
 use Rattle.frame.specs.Header.{header}
 use Rattle.frame.specs.Refusals.{frameRefusal, wrongAddress, wrongContent, wrongKind, wrongTrailer}
-use Rattle.holdback.specs.Check.{wrongQueue}
+use Rattle.holdback.specs.WrongQueue.{wrongQueue}
 use Rattle.holdback.specs.Slots.{queueSize}
 use Rattle.node.proofs.Delivering.{concluded, deliver-by-refusal}
 use Rattle.node.proofs.Offering.{offer-by-refusal}
 use Rattle.node.proofs.Sending.{send-by-refusal}
 use Rattle.node.specs.Answers.{AfterDeliver, AfterOffer, AfterSend, deliverNumber, offerNumber, sendNumber, setUpNumber}
 use Rattle.node.specs.Calls.{acceptDeliver, acceptOffer, acceptSend, deliverCall, offerCall, refuseDeliver, refuseOffer, refuseSend, sendCall}
-use Rattle.node.specs.Checks.{deliverRefusal, holdRefusal, nodeAt, offerRefusal, recordRefusal, sendRefusal}
-use Rattle.node.specs.Record.{brokenRecord, nodeOf}
+use Rattle.node.specs.CallRefusals.{deliverRefusal, holdRefusal, offerRefusal, recordRefusal, sendRefusal}
+use Rattle.node.specs.Record.{nodeAt, brokenRecord, nodeOf}
 use Rattle.node.specs.SetUp.{freshRecord, setUp}
 use Rattle.protocol.specs.Answer.{Label, Outcome, delivery}
 use Rattle.protocol.specs.Node.{atLimit}

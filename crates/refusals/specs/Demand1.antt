@@ -16,19 +16,18 @@ use Rattle.protocol.specs.Node.{atLimit}
 use Rattle.protocol.specs.Send.{badDestination, longBody}
 use Rattle.protocol.specs.Offer.{claimsTooMuch, deliveredBefore, heldAlready, noRoom, notForMe}
 use Rattle.holdback.specs.Slots.{queueSize}
-use Rattle.holdback.specs.Check.{wrongQueue}
+use Rattle.holdback.specs.WrongQueue.{wrongQueue}
 use Rattle.node.specs.declared.Node.{Node as Record}
 use Rattle.node.specs.declared.SetUp.{SetUp}
 use Rattle.node.specs.declared.SetUpAnswer.the-variants as setUpAnswer
 use Rattle.node.specs.declared.SendAnswer.the-variants as sendAnswer
 use Rattle.node.specs.declared.OfferAnswer.the-variants as offerAnswer
 use Rattle.node.specs.declared.DeliverAnswer.the-variants as deliverAnswer
-use Rattle.node.specs.Record.{brokenRecord, nodeOf}
+use Rattle.node.specs.Record.{brokenRecord, nodeOf, nodeAt}
 use Rattle.node.specs.SetUp.{freshRecord, setUp}
 use Rattle.node.specs.Answers.{AfterDeliver, AfterOffer, AfterSend, deliverNumber, offerNumber, sendNumber, setUpNumber}
 use Rattle.node.specs.Sizes.{outSize}
 use Rattle.node.specs.Calls.{deliverCall, offerCall, sendCall}
-use Rattle.node.specs.Checks.{nodeAt}
 
 -- ---- checks, and the first that is met
 

@@ -7,8 +7,8 @@ use Rattle.frame.specs.Entries.{entriesBytes, entriesFrom, entriesOf, entryAt, 
 use Rattle.frame.specs.Frame.{decode, encode, front, headerOf}
 use Rattle.frame.specs.Frames.{framesOf}
 use Rattle.frame.specs.Header.{header, headerBytes, ownLength}
-use Rattle.frame.specs.Refusals.{before, eachOk, entryOk, frameRefusal, rising, risingAfter, wrongAddress, wrongBody, wrongContent, wrongEntries, wrongKind, wrongTrailer}
-use Rattle.holdback.specs.Check.{heldRefused, sameBytes, someAlike, someRefused, wrongQueue}
+use Rattle.frame.specs.Refusals.{precedes, eachOk, entryOk, frameRefusal, rising, risingAfter, wrongAddress, wrongBody, wrongContent, wrongEntries, wrongKind, wrongTrailer}
+use Rattle.holdback.specs.WrongQueue.{heldRefused, sameBytes, someAlike, someRefused, wrongQueue}
 use Rattle.holdback.specs.Slots.{frameIn, heldFrames, padded, slots, without, zeros}
 use Rattle.matrix.specs.Array.{entry, flat}
 use Rattle.matrix.specs.Matrix.{clear, columnCount, count, fullest, merge, only}
@@ -34,7 +34,7 @@ use Rattle.commands.specs.Commands as commands
 use Rattle.commands.specs.FirstLine as firstLine
 use Rattle.counters.specs.Counted.{upTo32, share, noCounters, withExtras, countedSend, countedOffer, countedDelivery, countedNothing}
 use Rattle.world.specs.Steps.{sendStep, offerStep, deliverStep, named, issueFrom}
-use Rattle.world.specs.Stored.{startable, capTaken}
+use Rattle.world.specs.Start.{startable, capTaken}
 use Rattle.simulation.specs.Yard.{output, ofLines, started, lines, line, printedBy, countedBy, headerRow, issueRows}
 
 -- the example's input
@@ -68,5 +68,5 @@ printed =
     ++ (84 ∷ 32 ∷ 51 ∷ 32 ∷ 48 ∷ 32 ∷ 51 ∷ 32 ∷ 49 ∷ 32 ∷ 48 ∷ 10 ∷ [])
 
 pub example : output input ≡ printed
-unfolding setUp inRange cutFor sendCall offerCall deliverCall brokenRecord brokenRules zeroDiagonal zeroColumn withinLimit zeroFrom count columnCount flat entry atLimit protocolSend.send protocolOffer.offer protocolDeliver.deliver deliverable trimFor fullest clear only merge framesOf encode sealed front headerBytes headerOf header ownLength entriesBytes entryBytes entriesOf listed placed entriesFrom entryAt matrixOf le16 le32 u16At u32At bytes.put trailer trailers.counted checksum total decode wrongQueue sameBytes heldRefused someRefused someAlike arrivalRefusal frameRefusal wrongTrailer hasTrailer countBack sumBack wrongKind wrongAddress wrongContent wrongBody wrongEntries eachOk entryOk before rising risingAfter zeros padded slots frameIn heldFrames without sendStep offerStep deliverStep named issueFrom startable capTaken upTo32 share noCounters withExtras countedSend countedOffer countedDelivery countedNothing commands.letter commands.withOne commands.withTwo commands.ofPieces commands.command firstLine.sizes firstLine.ofPieces firstLine.firstLine row spaced decimal digits value continued isDigit split grown output ofLines started lines line printedBy countedBy headerRow issueRows
+unfolding setUp inRange cutFor sendCall offerCall deliverCall brokenRecord brokenRules zeroDiagonal zeroColumn withinLimit zeroFrom count columnCount flat entry atLimit protocolSend.send protocolOffer.offer protocolDeliver.deliver deliverable trimFor fullest clear only merge framesOf encode sealed front headerBytes headerOf header ownLength entriesBytes entryBytes entriesOf listed placed entriesFrom entryAt matrixOf le16 le32 u16At u32At bytes.put trailer trailers.counted checksum total decode wrongQueue sameBytes heldRefused someRefused someAlike arrivalRefusal frameRefusal wrongTrailer hasTrailer countBack sumBack wrongKind wrongAddress wrongContent wrongBody wrongEntries eachOk entryOk precedes rising risingAfter zeros padded slots frameIn heldFrames without sendStep offerStep deliverStep named issueFrom startable capTaken upTo32 share noCounters withExtras countedSend countedOffer countedDelivery countedNothing commands.letter commands.withOne commands.withTwo commands.ofPieces commands.command firstLine.sizes firstLine.ofPieces firstLine.firstLine row spaced decimal digits value continued isDigit split grown output ofLines started lines line printedBy countedBy headerRow issueRows
 example = refl

@@ -6,4 +6,5 @@ pub mod Facts
 pub mod Concluding
 pub mod Lines
 pub mod Runs
+pub mod EveryYard
 pub mod Example

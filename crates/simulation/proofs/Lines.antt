@@ -12,7 +12,8 @@ use lib.ListN.{length, take, drop, length-append, length-drop}
 use Rattle.wire.specs.Bytes.{put}
 use Rattle.wire.proofs.Bytes.{put-append}
 use Rattle.wire.proofs.Tests.{cond-no, cond-yes, eq→eqb, ne→neqb}
-use Rattle.text.specs.Pieces.{before, split}
+use Rattle.text.specs.Pieces.{split}
+use Rattle.text.specs.Before.{before}
 use Rattle.text.proofs.Pieces.{split-found, split-none, split-some}
 use Rattle.commands.specs.Commands.{command}
 use Rattle.counters.specs.Counted.{noCounters}

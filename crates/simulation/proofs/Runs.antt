@@ -8,7 +8,8 @@ use native.Mathlib.Omega.{arith}
 use borrow.Author.Tests.{le-ltb, lt-ltb}
 use lib.ListN.{length, take, drop, replicate, length-replicate}
 use Rattle.wire.specs.Bytes.{put}
-use Rattle.text.specs.Pieces.{before, split}
+use Rattle.text.specs.Pieces.{split}
+use Rattle.text.specs.Before.{before}
 use Rattle.text.proofs.Pieces.{split-found, split-none, split-some}
 use Rattle.commands.specs.FirstLine.{firstLine}
 use Rattle.commands.specs.declared.FirstLine.{FirstLine}
@@ -16,7 +17,8 @@ use Rattle.commands.specs.declared.FirstLine.the-variants as first
 use Rattle.holdback.specs.Slots.{queueSize, zeros}
 use Rattle.causality.specs.Demand3.{start}
 use Rattle.world.proofs.Starts.{holds-start}
-use Rattle.world.specs.Stored.{Holds, fresh, logSize, maxSimulated, startable}
+use Rattle.world.specs.Stored.{Holds, fresh, logSize}
+use Rattle.world.specs.Start.{maxSimulated, startable}
 use Rattle.world.specs.declared.World.{World}
 use Rattle.simulation.specs.Run.{Fits, afterRun, outputSize, runCall}
 use Rattle.simulation.specs.Yard.{alone, lines, maxInput, maxIssues, ofLines, opened, output, started}

@@ -1,6 +1,7 @@
--- To believe: Yard, the yard's lines and its output, and Run, a run over lent bytes.
+-- To believe: Yard, the yard's lines and its output, Run, a run over lent bytes, and EveryYard, that demand 3 speaks of every yard.
 -- Vocabulary of inner contracts: Asked, and Stands, how a yard is stored.
 pub mod Yard
 pub mod Run
+pub mod EveryYard
 pub mod Asked
 pub mod Stands

@@ -9,7 +9,8 @@ use Rattle.simulation.specs.Yard.{output}
 use Rattle.simulation.specs.declared.Ran.{Ran}
 use Rattle.simulation.specs.declared.Ran.the-variants as ran
 
--- bytes of output that always suffice: five for each of 4,096 bytes of input (a line of one byte prints `R 17`), 17 for each of at most 75 frames issued, and 62 for the last `R 17` and the T line are 21,817
+-- bytes of output that always suffice: five for each of 4,096 bytes of input (a line of one byte prints `R 17`), 17 for each of
+-- at most 75 frames issued, and 62 for the last `R 17` and the T line are 21,817
 abbrev pub outputSize : ℕ
 outputSize = 24576
 

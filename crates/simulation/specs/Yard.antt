@@ -18,7 +18,7 @@ use Rattle.commands.specs.declared.FirstLine.the-variants as first
 use Rattle.counters.specs.declared.Counters.{Counters}
 use Rattle.counters.specs.Counted.{noCounters, countedSend, countedOffer, countedDelivery, countedNothing}
 use Rattle.world.specs.Steps.{AfterStep, sendStep, offerStep, deliverStep, frames}
-use Rattle.world.specs.Stored.{startable}
+use Rattle.world.specs.Start.{startable}
 use Rattle.world.specs.declared.Outcome.{Outcome}
 use Rattle.world.specs.declared.Outcome.the-variants as outcome
 

@@ -23,7 +23,7 @@ use Rattle.matrix.specs.Message.{Message, number}
 use Rattle.node.proofs.Delivering.{concluded, searched}
 use Rattle.node.specs.Answers.{AfterDeliver}
 use Rattle.node.specs.Calls.{acceptDeliver}
-use Rattle.node.specs.Checks.{nodeAt}
+use Rattle.node.specs.Record.{nodeAt}
 use Rattle.node.specs.declared.Node.{Node as Record}
 use Rattle.protocol.proofs.Below.{countUp-other, countUp-same}
 use Rattle.protocol.proofs.Lists.{at-map}

@@ -11,7 +11,7 @@ use Rattle.arrival.specs.View.{arrivalRefusal}
 use Rattle.frame.specs.Frame.{decode}
 use Rattle.holdback.proofs.Held.{FrameKept}
 use Rattle.holdback.proofs.Passing.{Apart, queue-right}
-use Rattle.holdback.specs.Check.{wrongQueue}
+use Rattle.holdback.specs.WrongQueue.{wrongQueue}
 use Rattle.holdback.specs.Slots.{laid, queueSize, slots, zeros}
 use Rattle.matrix.proofs.Array.{getD-list}
 use Rattle.matrix.proofs.Cleared.{rules-back}
@@ -24,8 +24,8 @@ use Rattle.node.proofs.Offering.{Offerable, offer-accepted, offer-refused, offe
 use Rattle.node.proofs.Sending.{Sendable, send-accepted, send-refused, sendable}
 use Rattle.node.specs.Answers.{AfterDeliver, AfterOffer, AfterSend, setUpNumber}
 use Rattle.node.specs.Calls.{deliverCall, offerCall, sendCall}
-use Rattle.node.specs.Checks.{deliverRefusal, nodeAt, offerRefusal, sendRefusal, shortOutputs}
-use Rattle.node.specs.Record.{brokenRecord, nodeOf}
+use Rattle.node.specs.CallRefusals.{deliverRefusal, offerRefusal, sendRefusal, shortOutputs}
+use Rattle.node.specs.Record.{nodeAt, brokenRecord, nodeOf}
 use Rattle.node.specs.SetUp.{freshRecord, setUp}
 use Rattle.node.specs.declared.Node.{Node as Record}
 use Rattle.node.specs.declared.SetUp.{SetUp}

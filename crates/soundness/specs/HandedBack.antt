@@ -5,7 +5,7 @@ use mathlib.Core.Bool.{false}
 use mathlib.Core.List.{List, []}
 use mathlib.Core.Path.{_≡_}
 use lib.ListN.{length}
-use Rattle.holdback.specs.Check.{wrongQueue}
+use Rattle.holdback.specs.WrongQueue.{wrongQueue}
 use Rattle.holdback.specs.Slots.{queueSize, zeros}
 use Rattle.node.specs.declared.Node.{Node as Record}
 use Rattle.node.specs.Answers.{AfterDeliver, AfterOffer, setUpNumber}

@@ -9,7 +9,8 @@ use lib.ListN.{drop, getD, length, length-drop, take}
 use lib.Seq.{drop-drop, take-all}
 use Rattle.wire.proofs.Bytes.{rest, rest-end}
 use Rattle.wire.proofs.Tests.{cond-elim, cond-no, cond-yes, eq→eqb, ne→neqb}
-use Rattle.text.specs.Pieces.{before, grown, split}
+use Rattle.text.specs.Pieces.{grown, split}
+use Rattle.text.specs.Before.{before}
 
 -- a text with no byte, one that starts with c, and one that starts with another byte
 pub before-nil : (c : ℕ) → before c [] ≡ 0

@@ -1,4 +1,6 @@
--- To believe, for the yard: the pieces of a text (not `before`, which is vocabulary of inner contracts), the number of a field, and a printed line.
+-- To believe, for the yard: Pieces, Fields, the number of a field, and Print, a printed line.
+-- Vocabulary of inner contracts: Before, where a byte stands.
 pub mod Pieces
+pub mod Before
 pub mod Fields
 pub mod Print

@@ -1,5 +1,6 @@
--- The pieces of a text between the bytes c: with the line feed its lines, the last piece being what stands behind the last line feed, and with the space the fields of a line.
-use Prim.Native.Nat.{ℕ, suc}
+-- The pieces of a text between the bytes c: with the line feed its lines, the last piece being what stands behind the last line feed;
+-- with the space the fields of a line.
+use Prim.Native.Nat.{ℕ}
 use mathlib.Core.Bool.{cond}
 use mathlib.Core.List.{List, [], _∷_}
 use lib.Dec.{eqb}
@@ -13,8 +14,3 @@ grown b (p ∷ ps) = (b ∷ p) ∷ ps
 unfoldable pub split : ℕ → List ℕ → List (List ℕ)
 split c [] = [] ∷ []
 split c (b ∷ s) = cond (eqb b c) ([] ∷ split c s) (grown b (split c s))
-
--- how many bytes of s stand before the first c: all of them where there is none
-unfoldable pub before : ℕ → List ℕ → ℕ
-before c [] = 0
-before c (b ∷ s) = cond (eqb b c) 0 (suc (before c s))

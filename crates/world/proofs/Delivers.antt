@@ -19,7 +19,7 @@ use Rattle.node.specs.declared.DeliverAnswer.{DeliverAnswer}
 use Rattle.node.specs.declared.DeliverAnswer.the-variants as deliverAnswer
 use Rattle.node.specs.declared.Node.{Node as Record}
 use Rattle.causality.proofs.Frames.{cut-nothing}
-use Rattle.causality.specs.Demand3.{World, counted, deliverAt, delivered, delivers, framesIn}
+use Rattle.causality.specs.Demand3.{World, bytesIssued, deliverAt, delivered, delivers, framesIn}
 use Rattle.world.proofs.Keeping.{end-room, holds-after, holds-later, stored-still}
 use Rattle.world.proofs.Logs.{begins-inside}
 use Rattle.world.proofs.Queues.{queue-back, queue-here, queue-other, queue-part, queues-length}
@@ -30,7 +30,8 @@ use Rattle.world.specs.declared.Outcome.{Outcome}
 use Rattle.world.specs.declared.Outcome.the-variants as outcome
 use Rattle.world.specs.declared.World.{World as Stored}
 use Rattle.world.specs.Steps.{AfterStep, afterDelivered, bodyOutput, deliverStep, exhausted, frameOutput, frames, issueFrom, refuse}
-use Rattle.world.specs.Stored.{Holds, joined, logSize, maxSimulated, noRecord, queueAt, storedAfter}
+use Rattle.world.specs.Stored.{Holds, joined, logSize, noRecord, queueAt, storedAfter}
+use Rattle.world.specs.Start.{maxSimulated}
 
 module _ (n cap limit k : ℕ) (w : World) (s : Stored) (q l : List ℕ) (h : Holds n cap limit k w s q l) (short : k + 1 < 1000000000) (j : ℕ) where
   -- what is asked of the code: the outcome and the stored world are the definition's
@@ -62,8 +63,8 @@ module _ (n cap limit k : ℕ) (w : World) (s : Stored) (q l : List ℕ) (h : Ho
         subst (λ (y : DeliverAnswer). DeliverTold (w .records j) (w .queues j) frameOutput y c) (ap (λ (y : AfterDeliver). y .result .answer) same ∙ t)
         (deliver-told (w .records j) (w .queues j) frameOutput bodyOutput)
 
-    tells : (x : DeliverAnswer) → a .answer ≡ x → counted (delivered (c .result .answer)) ≡ counted (delivered x)
-    tells x t = ap (λ (y : DeliverAnswer). counted (delivered y)) (ap (λ (y : AfterDeliver). y .result .answer) same ∙ t)
+    tells : (x : DeliverAnswer) → a .answer ≡ x → bytesIssued (delivered (c .result .answer)) ≡ bytesIssued (delivered x)
+    tells x t = ap (λ (y : DeliverAnswer). bytesIssued (delivered y)) (ap (λ (y : AfterDeliver). y .result .answer) same ∙ t)
 
     -- the queues after the call
     abbrev q₁ : List ℕ
@@ -79,7 +80,7 @@ module _ (n cap limit k : ℕ) (w : World) (s : Stored) (q l : List ℕ) (h : Ho
         (refl, subst (λ (y : List ℕ). Holds n cap limit (k + 1) w s y l) (sym (queue-back j width q p₁ few (h .size) ez long u)) (holds-later n cap limit k w s q l h))
 
     -- the stored world after the call
-    stored : (bytes : List ℕ) (count : ℕ) → joined (framesIn (take (counted (delivered (c .result .answer))) (c .out))) ≡ bytes → length (framesIn (take (counted (delivered (c .result .answer))) (c .out))) ≡ count
+    stored : (bytes : List ℕ) (count : ℕ) → joined (framesIn (take (bytesIssued (delivered (c .result .answer))) (c .out))) ≡ bytes → length (framesIn (take (bytesIssued (delivered (c .result .answer))) (c .out))) ≡ count
         → length (w .log) + count ≤ limit + 11 → s .end + length bytes ≤ length l → (s′ : Stored) (l′ : List ℕ) → s′ ≡ storedAfter s j (c .result .node) count (length bytes) → l′ ≡ write l (s .end) bytes
         → Holds n cap limit (k + 1) (deliverAt w j (delivers j frameOutput bodyOutput) c) s′ q₁ l′
     stored bytes count written many below fits s′ l′ es el =
@@ -98,11 +99,11 @@ module _ (n cap limit k : ℕ) (w : World) (s : Stored) (q l : List ℕ) (h : Ho
 
     pub deliver-nothing : (tried : ℕ) → a .answer ≡ deliverAnswer.Nothing tried → DeliverDone (outcome.Nothing tried) s q₁ l
     deliver-nothing tried t =
-        let e₀ : counted (delivered (c .result .answer)) ≡ 0 = tells (deliverAnswer.Nothing tried) t in
+        let e₀ : bytesIssued (delivered (c .result .answer)) ≡ 0 = tells (deliverAnswer.Nothing tried) t in
         let u = told (deliverAnswer.Nothing tried) t in
         subst (λ (x : AfterStep). (outcome.Nothing tried ≡ x .outcome) × Holds n cap limit (k + 1) (x .world) s q₁ l) (sym (deliver-goes ∙ ap (afterDelivered w j c) t)) (
           refl,
-          stored [] 0 (frames-joined (take (counted (delivered (c .result .answer))) (c .out)) ∙ ap (λ (x : ℕ). take x (c .out)) e₀)
+          stored [] 0 (frames-joined (take (bytesIssued (delivered (c .result .answer))) (c .out)) ∙ ap (λ (x : ℕ). take x (c .out)) e₀)
               (ap (λ (x : ℕ). length (framesIn (take x (c .out)))) e₀ ∙ ap length (cut-nothing (c .out))) (omega (arith, h .below))
               (omega (arith, h .end, begins-inside (frames (w .log)) l (h .begins))) s l (unmoved (u .2)) (sym (put-nil l (s .end))),
         )
@@ -125,11 +126,11 @@ module _ (n cap limit k : ℕ) (w : World) (s : Stored) (q l : List ℕ) (h : Ho
           → s′ ≡ storedAfter s j (a .node) (d .extras) (length (take (d .bytes) out)) → l′ ≡ write l (s .end) (take (d .bytes) out) → DeliverDone (outcome.Delivered issue (d .tried) (d .extras)) s′ q₁ l′
       deliver-frame issue ei s′ l′ es el =
           let f = facts in
-          let e₀ : counted (delivered (c .result .answer)) ≡ d .bytes = tells (deliverAnswer.Frame d) t in
+          let e₀ : bytesIssued (delivered (c .result .answer)) ≡ d .bytes = tells (deliverAnswer.Frame d) t in
           subst (λ (x : AfterStep). (outcome.Delivered issue (d .tried) (d .extras) ≡ x .outcome) × Holds n cap limit (k + 1) (x .world) s′ q₁ l′) (sym (deliver-goes ∙ ap (afterDelivered w j c) t)) (
             ap (λ (x : ℕ). outcome.Delivered x (d .tried) (d .extras)) ei,
             stored (take (d .bytes) out) (d .extras)
-                (frames-joined (take (counted (delivered (c .result .answer))) (c .out)) ∙ ap₂ (λ (x : ℕ) (y : List ℕ). take x y) e₀ (ap (λ (x : AfterDeliver). x .out) same))
+                (frames-joined (take (bytesIssued (delivered (c .result .answer))) (c .out)) ∙ ap₂ (λ (x : ℕ) (y : List ℕ). take x y) e₀ (ap (λ (x : AfterDeliver). x .out) same))
                 (ap (λ (x : ℕ). length (framesIn (take x (c .out)))) e₀ ∙ wrote-frames (f .wrote) ∙ f .many)
                 (omega (arith, f .few, h .range .atLeast2)) delivered-room s′ l′
                 (es ∙ ap (λ (x : AfterDeliver). storedAfter s j (x .result .node) (d .extras) (length (take (d .bytes) out))) (sym same)) el,

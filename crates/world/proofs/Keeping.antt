@@ -10,18 +10,19 @@ use native.Mathlib.Omega.{arith}
 use lib.ListN.{length, getD, set, take, drop, getElem?, length-set, length-append, length-map}
 use lib.Seq.{getD-set-same, getD-set-other, take-at}
 use Rattle.wire.proofs.Bytes.{length-put, put-eq}
-use Rattle.wire.specs.Bytes.{put as write}
+use Rattle.wire.specs.Bytes.{put}
 use Rattle.wire.specs.Limits.{maxFrame}
-use Rattle.arrival.specs.Checked.{Checked}
-use Rattle.protocol.proofs.Below.{put-other, put-same}
-use Rattle.protocol.specs.World.{put}
+use Rattle.arrival.specs.CheckedFrame.{CheckedFrame}
+use Rattle.protocol.proofs.Below.{update-other, update-same}
+use Rattle.protocol.specs.Node.{update}
 use Rattle.node.specs.declared.Node.{Node as Record}
 use Rattle.causality.specs.Demand3.{Answer, Issue, Step, World, afterCall, issuedBy, issuedFrames}
 use Rattle.world.proofs.Logs.{joined-append, joined-one, joined-none}
 use Rattle.world.proofs.Reach.{IssuedFacts, issued-facts, reached-later}
 use Rattle.world.specs.declared.World.{World as Stored}
 use Rattle.world.specs.Steps.{frames}
-use Rattle.world.specs.Stored.{BeginsWith, Holds, Reached, joined, noRecord, queueAt, storedAfter}
+use Rattle.world.specs.Stored.{BeginsWith, Holds, joined, noRecord, queueAt, storedAfter}
+use Rattle.world.specs.Reached.{Reached}
 
 -- the issue at a place of the log
 pub issue-at : (l : List Issue) (p : ℕ) → p < length l → (g : Issue) × (getElem? l p ≡ some g) × (getD (frames l) p [] ≡ g .frame)
@@ -106,33 +107,33 @@ module _ (n cap limit k : ℕ) (w : World) (s : Stored) (q l : List ℕ) (h : Ho
   new-end : s .end + length bytes ≡ length (joined (frames (v .log)))
   new-end = omega (arith, h .end, ap length new-joined, length-append (joined (frames (w .log))) bytes)
 
-  new-bytes : take (length (joined (frames (v .log)))) (write l (s .end) bytes) ≡ joined (frames (v .log))
+  new-bytes : take (length (joined (frames (v .log)))) (put l (s .end) bytes) ≡ joined (frames (v .log))
   new-bytes =
       ap (λ (x : List ℕ). take (length (joined (frames (v .log)))) x) (put-eq l (s .end) bytes fits)
       ∙ ap (λ (x : List ℕ). take (length (joined (frames (v .log)))) (x ++ (bytes ++ drop (s .end + length bytes) l))) (ap (λ (x : ℕ). take x l) (h .end) ∙ h .begins .bytes)
       ∙ ap (take (length (joined (frames (v .log))))) (sym (append-assoc (joined (frames (w .log))) bytes (drop (s .end + length bytes) l)) ∙ ap (λ (x : List ℕ). x ++ drop (s .end + length bytes) l) (sym new-joined))
       ∙ take-at (joined (frames (v .log))) (drop (s .end + length bytes) l) (length (joined (frames (v .log)))) refl
 
-  new-sound : (p : ℕ) → p < length (frames (v .log)) → Checked (getD (frames (v .log)) p [])
+  new-sound : (p : ℕ) → p < length (frames (v .log)) → CheckedFrame (getD (frames (v .log)) p [])
   new-sound p a =
       let x = issue-at (v .log) p (omega (arith, length-map (v .log) (λ (g : Issue). g .frame))) in
-      subst Checked (sym (x .2)) (issued-facts n cap (k + 1) v reached (h .range) short p (x .0) (x .1) .sound)
+      subst CheckedFrame (sym (x .2)) (issued-facts n cap (k + 1) v reached (h .range) short p (x .0) (x .1) .sound)
 
   new-records : (x : ℕ) → x < n → getD (set (s .nodes) i r) x noRecord ≡ v .records x
   new-records x hx = go (ℕ-discrete x i)
     where
-      go : Dec (x ≡ i) → getD (set (s .nodes) i r) x noRecord ≡ put (w .records) i r x
-      go (yes e) = rw e (getD-set-same (s .nodes) i r noRecord (omega (arith, h .array, h .few)) ∙ sym (put-same (w .records) i r))
-      go (no e) = getD-set-other (s .nodes) i x r noRecord e ∙ h .records x hx ∙ sym (put-other (w .records) i r x e)
+      go : Dec (x ≡ i) → getD (set (s .nodes) i r) x noRecord ≡ update (w .records) i r x
+      go (yes e) = rw e (getD-set-same (s .nodes) i r noRecord (omega (arith, h .array, h .few)) ∙ sym (update-same (w .records) i r))
+      go (no e) = getD-set-other (s .nodes) i x r noRecord e ∙ h .records x hx ∙ sym (update-other (w .records) i r x e)
 
   new-queues : (x : ℕ) → x < n → queueAt q′ x ≡ v .queues x
   new-queues x hx = go (ℕ-discrete x i)
     where
-      go : Dec (x ≡ i) → queueAt q′ x ≡ put (w .queues) i qi x
-      go (yes e) = rw e (here ∙ sym (put-same (w .queues) i qi))
-      go (no e) = others x hx e ∙ h .queues x hx ∙ sym (put-other (w .queues) i qi x e)
+      go : Dec (x ≡ i) → queueAt q′ x ≡ update (w .queues) i qi x
+      go (yes e) = rw e (here ∙ sym (update-same (w .queues) i qi))
+      go (no e) = others x hx e ∙ h .queues x hx ∙ sym (update-other (w .queues) i qi x e)
 
-  pub holds-after : (s′ : Stored) (l′ : List ℕ) → s′ ≡ storedAfter s i r count (length bytes) → l′ ≡ write l (s .end) bytes → Holds n cap limit (k + 1) v s′ q′ l′
+  pub holds-after : (s′ : Stored) (l′ : List ℕ) → s′ ≡ storedAfter s i r count (length bytes) → l′ ≡ put l (s .end) bytes → Holds n cap limit (k + 1) v s′ q′ l′
   holds-after s′ l′ es el =
       rw (es, el)
       record {

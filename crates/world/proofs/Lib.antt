@@ -2,6 +2,7 @@
 pub mod Logs
 pub mod Written
 pub mod Reach
+pub mod Simulated
 pub mod Keeping
 pub mod Queues
 pub mod Starts

@@ -16,14 +16,14 @@ use Rattle.frame.specs.Frame.{decode}
 use Rattle.frame.specs.Header.{header, ownLength}
 use Rattle.frame.specs.declared.header.Header.{Header}
 use Rattle.matrix.specs.Message.{number}
-use Rattle.arrival.specs.Checked.{Checked}
+use Rattle.arrival.specs.CheckedFrame.{CheckedFrame}
 use Rattle.holdback.proofs.Slots.{header-append, own-least}
 use Rattle.causality.specs.Demand3.{Label}
 use Rattle.world.specs.Steps.{named, issueFrom}
 use Rattle.world.specs.Stored.{joined, Begins}
 
 -- a sound frame is as long as its own e and b say, and has at most 802 bytes
-checked-own : (s : List ℕ) → Checked s → ownLength (header s) ≡ length s
+checked-own : (s : List ℕ) → CheckedFrame s → ownLength (header s) ≡ length s
 unfolding ownLength
 checked-own s c = let k = passes-kept (c .n) (c .cap) s (c .passes) in omega (arith, k .size, k .long, trailed s (k .trailer) .count)
 
@@ -74,7 +74,7 @@ pub record LogPart (f : List (List ℕ)) (l : List ℕ) (i at end : ℕ) : Type 
   pub from : at ≤ end
   pub inside : end ≤ length l
   pub same : take (end - at) (drop at l) ≡ getD f i []
-  pub sound : Checked (getD f i [])
+  pub sound : CheckedFrame (getD f i [])
   pub next : end ≡ length (joined (take (i + 1) f))
 
 pub log-room : (f : List (List ℕ)) (l : List ℕ) (i at : ℕ) → Begins f l → i < length f → at ≡ length (joined (take i f)) → at + 8 ≤ length l

@@ -26,7 +26,9 @@ use Rattle.world.specs.declared.Outcome.{Outcome}
 use Rattle.world.specs.declared.Outcome.the-variants as outcome
 use Rattle.world.specs.declared.World.{World as Stored}
 use Rattle.world.specs.Steps.{AfterStep, afterOffered, frames, offerStep, offerTo, refuse}
-use Rattle.world.specs.Stored.{Holds, Reached, maxSimulated, noRecord, queueAt, storedAfter}
+use Rattle.world.specs.Stored.{Holds, noRecord, queueAt, storedAfter}
+use Rattle.world.specs.Reached.{Reached}
+use Rattle.world.specs.Start.{maxSimulated}
 
 -- an issue past the last
 none-at : {A : Type 0} (l : List A) (p : ℕ) → length l ≤ p → getElem? l p ≡ none

@@ -10,7 +10,8 @@ use lib.ListN.{length, take, drop, length-append, length-drop, take-append-drop}
 use lib.Seq.{length-take-le, take-append-le, drop-append-le, drop-append-add, drop-at, take-at}
 use Rattle.wire.proofs.Tests.{decide}
 use Rattle.holdback.specs.Slots.{queueSize}
-use Rattle.world.specs.Stored.{maxSimulated, queueAt}
+use Rattle.world.specs.Stored.{queueAt}
+use Rattle.world.specs.Start.{maxSimulated}
 
 -- the queue of node i, where its width is given as a number
 pub queue-part : (i width : ℕ) (q : List ℕ) → width ≡ queueSize → take width (drop (queueSize * i) q) ≡ queueAt q i

@@ -11,7 +11,7 @@ use Rattle.wire.proofs.Bytes.{small-bytes}
 use Rattle.wire.specs.Limits.{maxFrame}
 use Rattle.matrix.specs.Message.{InRange, Sound}
 use Rattle.frame.proofs.Written.{encode-most, encode-sound}
-use Rattle.arrival.specs.Checked.{Checked}
+use Rattle.arrival.specs.CheckedFrame.{CheckedFrame}
 use Rattle.protocol.proofs.Good.{Good}
 use Rattle.protocol.proofs.Lists.{map-at}
 use Rattle.protocol.proofs.Runs.{run-good, run-length, start-good}
@@ -23,7 +23,7 @@ use Rattle.causality.proofs.Reading.{to-encode}
 use Rattle.causality.proofs.Runs.{run-matches, start-matches}
 use Rattle.causality.proofs.Steps.{forget}
 use Rattle.causality.specs.Demand3.{BodiesOfBytes, Issue, Step, World, run, start, step, sends, offers, delivers, sendAt, offerAt, deliverAt, offerIssue, destination}
-use Rattle.world.specs.Stored.{Reached}
+use Rattle.world.specs.Reached.{Reached}
 
 -- one step more at the end of a list
 run-more : (n : ℕ) (w : World) (l : List Step) (s : Step) → run n w (l ++ (s ∷ [])) ≡ step n (run n w l) s
@@ -63,7 +63,7 @@ module _ (n cap k : ℕ) (w : World) (r : Reached n cap k w) where
 
   -- the issued frames are sound, go to a node of the list, and have at most 802 bytes
   pub record IssuedFacts (s : List ℕ) : Type 0 where
-    pub sound : Checked s
+    pub sound : CheckedFrame s
     pub to : destination s < n
     pub most : length s ≤ maxFrame
 

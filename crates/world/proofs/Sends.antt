@@ -16,7 +16,7 @@ use Rattle.node.specs.declared.Node.{Node as Record}
 use Rattle.node.specs.declared.Sent.{Sent}
 use Rattle.node.specs.declared.SendAnswer.{SendAnswer}
 use Rattle.node.specs.declared.SendAnswer.the-variants as sendAnswer
-use Rattle.causality.specs.Demand3.{World, counted, framesIn, sent, sends}
+use Rattle.causality.specs.Demand3.{World, bytesIssued, framesIn, sent, sends}
 use Rattle.world.proofs.Keeping.{end-room, holds-after, holds-later}
 use Rattle.world.proofs.Reach.{reached-send}
 use Rattle.world.proofs.Written.{frames-joined, wrote-frames}
@@ -71,8 +71,8 @@ module _ (n cap limit k : ℕ) (w : World) (s : Stored) (q l : List ℕ) (h : Ho
       facts : SentFacts frameOutput (c .out) bytes extras
       facts = subst (λ (x : SendAnswer). SendTold frameOutput x c) told (send-told (w .records i) j [] frameOutput)
 
-      tells : counted (sent (c .result .answer)) ≡ bytes
-      tells = ap (λ (x : SendAnswer). counted (sent x)) told
+      tells : bytesIssued (sent (c .result .answer)) ≡ bytes
+      tells = ap (λ (x : SendAnswer). bytesIssued (sent x)) told
 
       -- what is written fits the log, and the frames can be counted
       pub sent-inside : bytes ≤ length out
@@ -92,7 +92,7 @@ module _ (n cap limit k : ℕ) (w : World) (s : Stored) (q l : List ℕ) (h : Ho
             refl,
             holds-after n cap limit k w s q l h short i hi (sends i j [] frameOutput) (c .result .node) (w .queues i) (sent (c .result .answer)) (c .out) q (take bytes out) (1 + extras)
                 (reached-send n cap k w (h .reached) i j frameOutput hi) refl (h .queues i hi) (λ x hx z. refl)
-                (frames-joined (take (counted (sent (c .result .answer))) (c .out)) ∙ ap₂ (λ (x : ℕ) (y : List ℕ). take x y) tells (ap (λ (x : AfterSend). x .out) same))
+                (frames-joined (take (bytesIssued (sent (c .result .answer))) (c .out)) ∙ ap₂ (λ (x : ℕ) (y : List ℕ). take x y) tells (ap (λ (x : AfterSend). x .out) same))
                 (ap (λ (x : ℕ). length (framesIn (take x (c .out)))) tells ∙ wrote-frames (f .wrote) ∙ f .many)
                 (omega (arith, f .few, h .range .atLeast2)) sent-room s′ l′
                 (es ∙ ap (λ (x : AfterSend). storedAfter s i (x .result .node) (1 + extras) (length (take bytes out))) (sym same)) el,

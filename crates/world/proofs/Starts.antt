@@ -19,7 +19,8 @@ use Rattle.node.specs.declared.SetUp.{SetUp}
 use Rattle.node.specs.declared.SetUpAnswer.the-variants.{Refused, Ready}
 use Rattle.causality.specs.Demand3.{start}
 use Rattle.world.proofs.Logs.{joined-none}
-use Rattle.world.specs.Stored.{Holds, capTaken, fresh, isReady, logSize, maxSimulated, noRecord, queueAt, startable}
+use Rattle.world.specs.Stored.{Holds, fresh, logSize, noRecord, queueAt}
+use Rattle.world.specs.Start.{capTaken, isReady, maxSimulated, startable}
 
 -- set-up that is ready was given numbers in range
 ready-range : (me n c : ℕ) → T (isReady (setUp me n c .answer)) → inRange me n c ≡ true
@@ -39,11 +40,11 @@ fresh-queue k i h =
     ap (take queueSize) (zeros-drop (queueSize * i) k (omega arith) ∙ ap zeros e ∙ sym (zeros-add queueSize r)) ∙ take-at (zeros queueSize) (zeros r) queueSize (length-zeros queueSize)
 
 -- n is 2 to 4, and n and the cap are in range
-record Opens (n c : ℕ) : Type 0 where
+pub record Opens (n c : ℕ) : Type 0 where
   pub few : n ≤ maxSimulated
   pub range : InRange n c
 
-opens : (n c : ℕ) → startable n (c ∷ c ∷ c ∷ c ∷ []) ≡ true → Opens n c
+pub opens : (n c : ℕ) → startable n (c ∷ c ∷ c ∷ c ∷ []) ≡ true → Opens n c
 unfolding startable capTaken
 opens n c s =
     let t₃ = and-T (leb 2 n && leb n maxSimulated && capTaken n 0 c && capTaken n 1 c && capTaken n 2 c) (capTaken n 3 c) (of-true _ s) in

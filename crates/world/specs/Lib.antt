@@ -1,4 +1,6 @@
--- To believe, for the yard: Steps, its steps on the world of a list; of Stored `startable` and what it uses (`maxSimulated`, `isReady`, `capTaken`).
--- Vocabulary of inner contracts: the rest of Stored, how that world is stored.
+-- To believe, for the yard: Start, whether it can start, Steps, its steps on the world of a list, and Reached, a world that a list leads to.
+-- Vocabulary of inner contracts: Stored, how that world is stored.
+pub mod Start
+pub mod Reached
 pub mod Steps
 pub mod Stored

@@ -1,26 +1,20 @@
 -- How the world of a list is stored: the records in a struct, the hold-back queues end to end, and the issued frames end to end.
 use Prim.Native.Nat.{ℕ, _+_, _*_, _<_, _≤_}
-use mathlib.Core.Bool.{Bool, true, false, _&&_, _||_}
 use mathlib.Core.List.{List, [], _∷_, _++_}
 use mathlib.Core.Path.{_≡_}
-use lib.Dec.{leb}
 use lib.ListN.{length, getD, set, take, drop}
 use Rattle.wire.specs.Limits.{maxFrame}
 use Rattle.matrix.specs.Message.{InRange}
-use Rattle.arrival.specs.Checked.{Checked}
+use Rattle.arrival.specs.CheckedFrame.{CheckedFrame}
 use Rattle.holdback.specs.Slots.{queueSize}
 use Rattle.node.specs.declared.Node.{Node as Record}
-use Rattle.node.specs.declared.SetUpAnswer.{SetUpAnswer}
-use Rattle.node.specs.declared.SetUpAnswer.the-variants.{Refused, Ready}
 use Rattle.node.specs.SetUp.{setUp}
 use Rattle.node.specs.Sizes.{outSize}
-use Rattle.causality.specs.Demand3.{World, Step, BodiesOfBytes, start, run}
+use Rattle.causality.specs.Demand3.{World}
 use Rattle.world.specs.declared.World.{World as Stored}
+use Rattle.world.specs.Start.{maxSimulated}
+use Rattle.world.specs.Reached.{Reached}
 use Rattle.world.specs.Steps.{frames}
-
--- nodes of a simulation at most
-abbrev pub maxSimulated : ℕ
-maxSimulated = 4
 
 -- what lies past the last record
 abbrev pub noRecord : Record
@@ -37,7 +31,7 @@ joined (s ∷ l) = s ++ joined l
 
 -- the bytes l begin with these sound frames end to end
 pub record Begins (f : List (List ℕ)) (l : List ℕ) : Type 0 where
-  pub sound : (k : ℕ) → k < length f → Checked (getD f k [])
+  pub sound : (k : ℕ) → k < length f → CheckedFrame (getD f k [])
   pub bytes : take (length (joined f)) l ≡ joined f
 
 -- the bytes l begin with at least k sound frames
@@ -60,27 +54,7 @@ freshFor n caps i = setUp i n (getD caps i 0) .node
 unfoldable pub fresh : ℕ → List ℕ → Stored
 fresh n caps = record { n = n; nodes = freshFor n caps 0 ∷ freshFor n caps 1 ∷ freshFor n caps 2 ∷ freshFor n caps 3 ∷ []; issued = 0; end = 0 }
 
-abbrev pub isReady : SetUpAnswer → Bool
-isReady (Refused k) = false
-isReady Ready = true
-
--- there is no node i among n, or set-up takes its cap
-unfoldable pub capTaken : ℕ → ℕ → ℕ → Bool
-capTaken n i cap = leb n i || isReady (setUp i n cap .answer)
-
--- n is 2 to 4, and set-up takes each node's cap
-unfoldable pub startable : ℕ → List ℕ → Bool
-startable n caps =
-    leb 2 n && leb n maxSimulated && capTaken n 0 (getD caps 0 0) && capTaken n 1 (getD caps 1 0) && capTaken n 2 (getD caps 2 0) && capTaken n 3 (getD caps 3 0)
-
 -- ---- A world that is stored
-
--- the world w is one that a list of at most k steps leads to
-pub record Reached (n cap k : ℕ) (w : World) : Type 0 where
-  pub steps : List Step
-  pub bytes : BodiesOfBytes steps
-  pub few : length steps ≤ k
-  pub same : w ≡ run n (start n cap) steps
 
 -- the world w, which at most k steps led to, is stored in s, the queues q and the log l
 -- below: a step that issues finds n issues left, and writes at most 13 frames

@@ -4,7 +4,7 @@ ghost use mathlib.Core.List.{List};
 ghost use Prim.Native.Nat.{ℕ, _+_, _≤_};
 ghost use lib.ListN.{length, take, drop};
 ghost use Rattle.frame.specs.Header.{header, ownLength};
-ghost use Rattle.arrival.specs.Checked.{Checked};
+ghost use Rattle.arrival.specs.CheckedFrame.{CheckedFrame};
 ghost use Rattle.world.specs.Stored.{Begins, BeginsWith, joined};
 ghost use Rattle.world.specs.Steps.{named, issueFrom};
 
@@ -33,7 +33,7 @@ pub fn skip(log: &[u8], k: usize) -> usize
 
 // Whether the sound frame s goes to node `to` and has this kind, from and number.
 fn is_named(s: &[u8], to: usize, kind: u8, from: u8, number: u32) -> bool
-    requires { ⌜ Checked (now s) ⌝ }
+    requires { ⌜ CheckedFrame (now s) ⌝ }
     ensures { λ r. ⌜ r ≡ named (record { kind = kind; from = from; number = number }) to (now (s .entry)) ⌝ }
 {
     let h = frame::header::read(s);

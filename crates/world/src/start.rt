@@ -4,7 +4,8 @@ use super::World;
 use node::Node;
 use node::SetUpAnswer;
 ghost use mathlib.Core.Path.{_≡_};
-ghost use Rattle.world.specs.Stored.{capTaken, fresh, startable};
+ghost use Rattle.world.specs.Stored.{fresh};
+ghost use Rattle.world.specs.Start.{capTaken, startable};
 
 /// The world of n nodes, each with its cap, as set-up leaves them; the other records are all zero.
 pub fn fresh(n: usize, caps: [usize; MAX_SIMULATED]) -> World

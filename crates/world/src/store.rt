@@ -5,7 +5,8 @@ ghost use mathlib.Core.Path.{_≡_};
 ghost use Prim.Native.Nat.{_+_, _≤_, _<_, _^_};
 ghost use lib.ListN.{length};
 ghost use Rattle.wire.specs.Bytes.{put};
-ghost use Rattle.world.specs.Stored.{maxSimulated, storedAfter};
+ghost use Rattle.world.specs.Stored.{storedAfter};
+ghost use Rattle.world.specs.Start.{maxSimulated};
 
 /// The record r in place of node i's, and the bytes of `count` frames behind the log's last.
 pub fn store(w: World, i: usize, r: Node, count: usize, log: &mut [u8], bytes: &[u8]) -> World

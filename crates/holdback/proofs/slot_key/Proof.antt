@@ -6,7 +6,7 @@ use native.Mathlib.Omega.{arith}
 use borrow.Author.Needs.{needs}
 use lib.ListN.{drop, length, take}
 use lib.Seq.{length-take-le}
-use Rattle.arrival.specs.Checked.{Checked}
+use Rattle.arrival.specs.CheckedFrame.{CheckedFrame}
 use Rattle.arrival.specs.View.{arrivalRefusal, nodeWith}
 use Rattle.frame.specs.Frame.{decode}
 use Rattle.frame.specs.Header.{header, ownLength}
@@ -58,7 +58,7 @@ part c = let o = c .before .before .before .before in slot-part (slot (start c))
 short : (c : tie.Else2) → ownLength (header (slot (start c))) ≤ maxFrame
 short c = let i = c .before .before .before in omega (arith, own (i .before), i .if1 .left)
 
-checked : (c : tie.Else2) → Checked (take (c .before .before .before .before .own-length .result) (slot (start c)))
+checked : (c : tie.Else2) → CheckedFrame (take (c .before .before .before .before .own-length .result) (slot (start c)))
 checked c = rw (part c) (record { n = node (start c) .n; cap = node (start c) .cap; few = start c .pre .1; passes = sound c })
 
 -- 12 to 14, and the zeros behind the frame

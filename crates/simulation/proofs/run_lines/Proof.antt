@@ -5,7 +5,7 @@ use native.Mathlib.Omega.{arith}
 use borrow.Author.Needs.{needs}
 use lib.ListN.{length, take, drop, length-drop}
 use lib.Seq.{length-take-le}
-use Rattle.text.specs.Pieces.{before}
+use Rattle.text.specs.Before.{before}
 use Rattle.causality.specs.Demand3.{start}
 use Rattle.world.specs.Stored.{Holds}
 use Rattle.simulation.specs.Run.{outputSize}

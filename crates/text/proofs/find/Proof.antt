@@ -4,7 +4,7 @@ use mathlib.Core.Path.{_≡_}
 use native.Mathlib.Omega.{arith}
 use borrow.Author.Needs.{needs}
 use lib.ListN.{drop, length}
-use Rattle.text.specs.Pieces.{before}
+use Rattle.text.specs.Before.{before}
 use Rattle.text.proofs.Pieces.{search-ends, search-found, search-goes}
 use Rattle.text.proofs.find.Statement.{statement}
 use Rattle.text.proofs.find.Tie as tie

@@ -8,7 +8,7 @@ use Rattle.holdback.proofs.Parts.{HeldPart}
 use Rattle.holdback.specs.Places.{placeOf}
 use Rattle.node.proofs.Delivering.{Ready, deliver-accepted, deliver-leaves, deliver-none, deliver-ready, deliver-refused, found-part, place-held, searched}
 use Rattle.node.proofs.Taking.{from-below}
-use Rattle.node.specs.Checks.{deliverRefusal, shortOutputs}
+use Rattle.node.specs.CallRefusals.{deliverRefusal, shortOutputs}
 use Rattle.node.proofs.Node.deliver.Statement.{statement}
 use Rattle.node.proofs.Node.deliver.Tie as tie
 

@@ -1,6 +1,6 @@
 -- A node that is not there, or what set-up answers. Assumes nothing.
 use borrow.Author.Tests.{le-leb, lt-leb}
-use Rattle.world.specs.Stored.{capTaken}
+use Rattle.world.specs.Start.{capTaken}
 use borrow.Author.Needs.{needs}
 use Rattle.world.proofs.start.cap_taken.Statement.{statement}
 use Rattle.world.proofs.start.cap_taken.Tie as tie

@@ -1,7 +1,7 @@
 -- One test after the other. Assumes nothing.
 use borrow.Author.Tests.{le-leb, lt-leb}
 use Rattle.wire.proofs.Tests.{denied, passed}
-use Rattle.world.specs.Stored.{startable}
+use Rattle.world.specs.Start.{startable}
 use borrow.Author.Needs.{needs}
 use Rattle.world.proofs.start.startable.Statement.{statement}
 use Rattle.world.proofs.start.startable.Tie as tie

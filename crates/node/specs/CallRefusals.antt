@@ -11,20 +11,16 @@ use Rattle.frame.specs.Refusals.{frameRefusal}
 use Rattle.protocol.specs.Node.{Node, atLimit}
 use Rattle.protocol.specs.Send.{badDestination}
 use Rattle.protocol.specs.Offer.{notForMe, claimsTooMuch, deliveredBefore, heldAlready, noRoom}
-use Rattle.holdback.specs.Slots.{queueSize, heldMessages}
-use Rattle.holdback.specs.Check.{wrongQueue}
+use Rattle.holdback.specs.Slots.{queueSize}
+use Rattle.holdback.specs.WrongQueue.{wrongQueue}
 use Rattle.node.specs.declared.Node.{Node as Record}
 use Rattle.node.specs.Sizes.{outSize}
-use Rattle.node.specs.Record.{brokenRecord, nodeOf}
+use Rattle.node.specs.Record.{brokenRecord, nodeAt, nodeOf}
 
 -- send: 2, 3, 5, 6, 7, for a body and a frame output of these lengths
 unfoldable pub sendRefusal : Record → ℕ → ℕ → ℕ → ℕ
 sendRefusal r to body out =
     cond (brokenRecord r) 2 (cond (ltb out outSize) 3 (cond (atLimit (nodeOf r [])) 5 (cond (badDestination (nodeOf r []) to) 6 (cond (ltb maxBody body) 7 0))))
-
--- the protocol's node of a record and its queue
-abbrev pub nodeAt : Record → List ℕ → Node
-nodeAt r q = nodeOf r (heldMessages (r .held) q)
 
 -- the protocol's refusals of an offer: 12 to 16
 unfoldable pub holdRefusal : Node → Message → ℕ

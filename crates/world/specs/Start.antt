@@ -1,0 +1,28 @@
+-- Whether a simulation can start: it has two to four nodes, and set-up takes the cap of each.
+use Prim.Native.Nat.{ℕ}
+use mathlib.Core.Bool.{Bool, true, false, _&&_, _||_}
+use mathlib.Core.List.{List}
+use lib.Dec.{leb}
+use lib.ListN.{getD}
+use Rattle.node.specs.declared.SetUpAnswer.{SetUpAnswer}
+use Rattle.node.specs.declared.SetUpAnswer.the-variants.{Refused, Ready}
+use Rattle.node.specs.SetUp.{setUp}
+
+-- nodes of a simulation at most
+abbrev pub maxSimulated : ℕ
+maxSimulated = 4
+
+-- whether set-up is not refused
+abbrev pub isReady : SetUpAnswer → Bool
+isReady (Refused k) = false
+isReady Ready = true
+
+-- there is no node i among n, or set-up takes its cap
+unfoldable pub capTaken : ℕ → ℕ → ℕ → Bool
+capTaken n i cap = leb n i || isReady (setUp i n cap .answer)
+
+-- n is 2 to 4, and set-up takes each node's cap
+unfoldable pub startable : ℕ → List ℕ → Bool
+startable n caps =
+    leb 2 n && leb n maxSimulated
+    && capTaken n 0 (getD caps 0 0) && capTaken n 1 (getD caps 1 0) && capTaken n 2 (getD caps 2 0) && capTaken n 3 (getD caps 3 0)
