@@ -4,3 +4,4 @@ pub mod Frames
 pub mod States
 pub mod Deliveries
 pub mod HandedBack
+pub mod Wrong
