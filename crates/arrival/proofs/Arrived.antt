@@ -105,4 +105,5 @@ module _ (d : Node) (g : Message) where
   pub arrives-back : Arrives → arrivalRefusal d g ≡ 0
   arrives-back k =
       arrival-none (k .here)
-      (is-false (claimsTooMuch d g) (none-some 12 (λ y. ltb (d .matrix (d .me) y) (g .entries (d .me) y)) (λ y h. le→nltb (d .matrix (d .me) y) (g .entries (d .me) y) (k .claims y h)))) (k .new)
+      (is-false (claimsTooMuch d g) (none-some 12 (λ y. ltb (d .matrix (d .me) y) (g .entries (d .me) y))
+      (λ y h. le→nltb (d .matrix (d .me) y) (g .entries (d .me) y) (k .claims y h)))) (k .new)

@@ -35,7 +35,8 @@ single-look a x y = rw (eqb-swap x (a .row), eqb-swap y (a .column))
         go (no e) = ne-eqb i j e ∙ sym (ne-eqb j i (λ f. e (sym f)))
 
 -- one entry, and then those behind it
-pub merge-step : (j : ℕ) (m : Matrix) (k : ℕ) (a : Entry) (l : List Entry) → Ordered k (a ∷ l) → merge j (merge j m (single (a .row) (a .column) (a .value))) (matrixOf l) ≡ merge j m (matrixOf (a ∷ l))
+pub merge-step : (j : ℕ) (m : Matrix) (k : ℕ) (a : Entry) (l : List Entry) → Ordered k (a ∷ l)
+    → merge j (merge j m (single (a .row) (a .column) (a .value))) (matrixOf l) ≡ merge j m (matrixOf (a ∷ l))
 merge-step j m k a l o = fun-ext (λ x. fun-ext (λ y. go x y (ℕ-discrete y j) (ℕ-discrete (a .row) x) (ℕ-discrete (a .column) y)))
   where
     first : Matrix
@@ -46,7 +47,13 @@ merge-step j m k a l o = fun-ext (λ x. fun-ext (λ y. go x y (ℕ-discrete y j)
 
     both : (x y : ℕ) → Dec (a .row ≡ x) → Dec (a .column ≡ y) → max (max (m x y) (first x y)) (matrixOf l x y) ≡ max (m x y) (matrixOf (a ∷ l) x y)
     both x y (yes p) (yes q) =
-        omega (arith, single-look a x y, look-hit a [] x y p q, look-hit a l x y p q, look-before (place a + 1) l (o .1) x y (omega (arith, o .0 .column)) (omega arith))
+        omega (
+          arith,
+          single-look a x y,
+          look-hit a [] x y p q,
+          look-hit a l x y p q,
+          look-before (place a + 1) l (o .1) x y (omega (arith, o .0 .column)) (omega arith),
+        )
     both x y (yes p) (no q) = else x y (λ _ r. q r)
     both x y (no p) d = else x y (λ r _. p r)
 
@@ -88,9 +95,12 @@ merging-turn s j e m₀ m m′ k a w h q n =
       turns = omega arith;
       cells = rw n (length-flat (merge j (entry m) (single (a .row) (a .column) (a .value))));
       ordered = ordered-down 0 (place a + 1) l (omega arith) (o .1);
-      whole = rw n (merge-array j (merge j (entry m) (single (a .row) (a .column) (a .value))) (matrixOf l) ∙ ap flat (merge-step j (entry m) 0 a l o)) ∙ rw r at (w .whole);
+      whole =
+          rw n (merge-array j (merge j (entry m) (single (a .row) (a .column) (a .value))) (matrixOf l)
+          ∙ ap flat (merge-step j (entry m) 0 a l o)) ∙ rw r at (w .whole);
     }
 
-pub merging-end : (s : List ℕ) (j : ℕ) (h : Header) (m₀ m : List ℕ) (k : ℕ) → Merging s j (h .e) m₀ m k → h .e ≤ k → h ≡ header s → m ≡ flat (merge j (entry m₀) (decode s .entries))
+pub merging-end : (s : List ℕ) (j : ℕ) (h : Header) (m₀ m : List ℕ) (k : ℕ) → Merging s j (h .e) m₀ m k → h .e ≤ k → h ≡ header s
+    → m ≡ flat (merge j (entry m₀) (decode s .entries))
 unfolding decode
 merging-end s j h m₀ m k w l e = sym (merge-none j m (w .cells)) ∙ rw (entries-done s k (h .e) l) at (w .whole) ∙ rw (← e)

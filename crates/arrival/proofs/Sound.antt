@@ -1,4 +1,5 @@
--- What a sound frame's bytes tell: the header and each entry can be read, each entry stands inside the twelve rows and columns, and the entries rise. Assumes nothing.
+-- What a sound frame's bytes tell: the header and each entry can be read,
+-- each entry stands inside the twelve rows and columns, and the entries rise. Assumes nothing.
 use Prim.Native.Nat.{_*_, _+_, _<_, _≤_, suc, zero, ℕ}
 use mathlib.Core.List.{List}
 use mathlib.Core.Path.{_≡_, refl}

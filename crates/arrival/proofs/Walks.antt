@@ -56,9 +56,11 @@ each-from k j (a ∷ l) h o =
 -- the matrix of rising entries has each entry's value in its row and column
 pub look-own : (k : ℕ) (l : List Entry) → Ordered k l → Each (λ a. matrixOf l (a .row) (a .column) ≡ a .value) l
 look-own k [] o = tt
-look-own k (a ∷ l) o = (look-hit a l (a .row) (a .column) refl refl, later l (each-from (place a + 1) (place a + 1) l (omega arith) (o .1)) (look-own (place a + 1) l (o .1)))
+look-own k (a ∷ l) o =
+    (look-hit a l (a .row) (a .column) refl refl, later l (each-from (place a + 1) (place a + 1) l (omega arith) (o .1)) (look-own (place a + 1) l (o .1)))
   where
-    later : (t : List Entry) → Each (Stands (place a + 1)) t → Each (λ b. matrixOf l (b .row) (b .column) ≡ b .value) t → Each (λ b. matrixOf (a ∷ l) (b .row) (b .column) ≡ b .value) t
+    later : (t : List Entry) → Each (Stands (place a + 1)) t → Each (λ b. matrixOf l (b .row) (b .column) ≡ b .value) t
+        → Each (λ b. matrixOf (a ∷ l) (b .row) (b .column) ≡ b .value) t
     later [] w e = tt
     later (b ∷ t) w e = (look-miss a l (b .row) (b .column) (λ p q. omega (arith, w .0 .from)) ∙ e .0, later t (w .1) (e .1))
 
@@ -86,7 +88,8 @@ exceeds-no : (me : ℕ) (m : Matrix) (a : Entry) → (a .row ≡ me → a .value
 unfolding exceeds
 exceeds-no me m a f =
     not-T (eqb (a .row) me && ltb (m me (a .column)) (a .value))
-    (λ t. let p = and-T (eqb (a .row) me) (ltb (m me (a .column)) (a .value)) t in omega (arith, f (eqb→eq (a .row) me (p .0)), ltb→lt (m me (a .column)) (a .value) (p .1)))
+    (λ t. let p = and-T (eqb (a .row) me) (ltb (m me (a .column)) (a .value)) t in
+    omega (arith, f (eqb→eq (a .row) me (p .0)), ltb→lt (m me (a .column)) (a .value) (p .1)))
 
 no-exceeds : (me : ℕ) (m : Matrix) (a : Entry) → T (not (exceeds me m a)) → a .row ≡ me → a .value ≤ m me (a .column)
 unfolding exceeds
@@ -101,7 +104,8 @@ unfolding ready
 yes-ready me v a t e = leb→le (a .value) (v (a .row)) (if-then (eqb (a .column) me) (leb (a .value) (v (a .row))) t (eq→eqb (a .column) me e))
 
 -- an entry of row me exceeds m there: the test of the matrix is the walk over the entries
-pub claims-walk : (me : ℕ) (m : Matrix) (l : List Entry) → Each Inside l → Ordered 0 l → someBelow 12 (λ y. ltb (m me y) (matrixOf l me y)) ≡ someEntry (exceeds me m) l
+pub claims-walk : (me : ℕ) (m : Matrix) (l : List Entry) → Each Inside l → Ordered 0 l
+    → someBelow 12 (λ y. ltb (m me y) (matrixOf l me y)) ≡ someEntry (exceeds me m) l
 claims-walk me m l w o = same-not (someBelow 12 (λ y. ltb (m me y) (matrixOf l me y))) (someEntry (exceeds me m) l) there back
   where
     Within : ℕ → ℕ → ℕ → Type 0
@@ -115,11 +119,13 @@ claims-walk me m l w o = same-not (someBelow 12 (λ y. ltb (m me y) (matrixOf l 
 
     back : T (not (someEntry (exceeds me m) l)) → T (not (someBelow 12 (λ y. ltb (m me y) (matrixOf l me y))))
     back t =
-        let each = each-map (λ a. T (not (exceeds me m a))) (λ a. Within (a .row) (a .column) (a .value)) (no-exceeds me m) l (none-entries (exceeds me m) l t) in
+        let each = each-map (λ a. T (not (exceeds me m a))) (λ a. Within (a .row) (a .column) (a .value))
+        (no-exceeds me m) l (none-entries (exceeds me m) l t) in
         none-some 12 (λ y. ltb (m me y) (matrixOf l me y)) (λ y _. le→nltb (m me y) (matrixOf l me y) (look-keeps Within l each me y (λ _. omega arith) refl))
 
 -- each entry of column me is at most v at its row: the test of the matrix is the walk over the entries
-pub ready-walk : (me : ℕ) (v : ℕ → ℕ) (l : List Entry) → Each Inside l → Ordered 0 l → eachBelow 12 (λ x. leb (matrixOf l x me) (v x)) ≡ everyEntry (ready me v) l
+pub ready-walk : (me : ℕ) (v : ℕ → ℕ) (l : List Entry) → Each Inside l → Ordered 0 l
+    → eachBelow 12 (λ x. leb (matrixOf l x me) (v x)) ≡ everyEntry (ready me v) l
 ready-walk me v l w o = same-test (eachBelow 12 (λ x. leb (matrixOf l x me) (v x))) (everyEntry (ready me v) l) there back
   where
     Within : ℕ → ℕ → ℕ → Type 0

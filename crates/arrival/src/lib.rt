@@ -54,7 +54,8 @@ fn exceeds(a: frame::entries::Entry, me: u8, m: &[u32; 144]) -> bool
 // 13: an entry in row me exceeds the matrix there.
 fn claims_too_much(s: &[u8], me: u8, m: &[u32; 144]) -> bool
     requires { ⌜ CheckedFrame (now s) ⌝ }
-    ensures { λ r. ⌜ ((n cap : ℕ) (deliv : List ℕ) (l : List Message) → r ≡ claimsTooMuch (nodeWith me n cap (now (m .entry)) deliv l) (decode (now (s .entry)))) ⌝ }
+    ensures { λ r. ⌜ ((n cap : ℕ) (deliv : List ℕ) (l : List Message)
+        → r ≡ claimsTooMuch (nodeWith me n cap (now (m .entry)) deliv l) (decode (now (s .entry)))) ⌝ }
 {
     let h = frame::header::read(s);
     let e = h.e as usize;
@@ -72,7 +73,8 @@ fn claims_too_much(s: &[u8], me: u8, m: &[u32; 144]) -> bool
 /// Why a sound frame is not for this node now: 12, 13 or 14, the first that is met, and 0 where none is.
 pub fn refusal(s: &[u8], me: u8, m: &[u32; 144], deliv: &[u32; 12]) -> u8
     requires { ⌜ CheckedFrame (now s) ⌝ }
-    ensures { λ r. ⌜ ((n cap : ℕ) (l : List Message) → r ≡ arrivalRefusal (nodeWith me n cap (now (m .entry)) (now (deliv .entry)) l) (decode (now (s .entry)))) ⌝ }
+    ensures { λ r. ⌜ ((n cap : ℕ) (l : List Message)
+        → r ≡ arrivalRefusal (nodeWith me n cap (now (m .entry)) (now (deliv .entry)) l) (decode (now (s .entry)))) ⌝ }
 {
     let h = frame::header::read(s);
     if h.to != me {

@@ -40,12 +40,15 @@ use Rattle.protocol.specs.Answer as protocol
 use Rattle.node.specs.declared.Node.{Node as Record}
 
 -- what a search leaves, as frames: those without the place of the one found
-search-left : (p : Message → Bool) (l : List Message) (k : ℕ) (m : Message) (others : List Message) → search p l ≡ found k m others → (h : ℕ) × (k ≡ suc h) × (map encode others ≡ without h (map encode l))
+search-left : (p : Message → Bool) (l : List Message) (k : ℕ) (m : Message) (others : List Message) → search p l ≡ found k m others
+    → (h : ℕ) × (k ≡ suc h) × (map encode others ≡ without h (map encode l))
 unfolding without
 search-left p [] k m others e = let z : _≡_ {A = ℕ} 0 1 = cc in absurd (omega arith)
 search-left p (a ∷ l) k m others e = go (decide (p a)) (search p l) refl (λ k m others e. search-left p l k m others e)
   where
-    go : T (p a) ⊎ T (not (p a)) → (r : Search) → search p l ≡ r → ((k : ℕ) (m : Message) (others : List Message) → search p l ≡ found k m others → (h : ℕ) × (k ≡ suc h) × (map encode others ≡ without h (map encode l)))
+    go : T (p a) ⊎ T (not (p a)) → (r : Search) → search p l ≡ r
+        → ((k : ℕ) (m : Message) (others : List Message) → search p l ≡ found k m others
+        → (h : ℕ) × (k ≡ suc h) × (map encode others ≡ without h (map encode l)))
         → (h : ℕ) × (k ≡ suc h) × (map encode others ≡ without h (encode a ∷ map encode l))
     go (inl t) r q ih =
         let e′ : found 1 a l ≡ found k m others = sym (cond-yes (p a) (found 1 a l) (past a (search p l)) t) ∙ e in
@@ -87,9 +90,11 @@ module _ (n cap : ℕ) (w : messages.World) (g : Good n (λ i. cap) w) (few : le
 
   -- the last step of the call
   abbrev settle : List ℕ → List ℕ → protocol.Outcome → AfterDeliver
-  settle out body o = cond (protocol.accepted (o .answer)) (acceptDeliver r q out body o (protocol.delivery (o .answer))) (refuseDeliver (refusalOf (o .answer)) r q out body)
+  settle out body o =
+      cond (protocol.accepted (o .answer)) (acceptDeliver r q out body o (protocol.delivery (o .answer))) (refuseDeliver (refusalOf (o .answer)) r q out body)
 
-  settled : (out body : List ℕ) → outSize ≤ length out → (s : Search) → search (deliverable d) (w .nodes i .held) ≡ s → Left (conclude d s) (settle out body (conclude d s))
+  settled : (out body : List ℕ) → outSize ≤ length out → (s : Search) → search (deliverable d) (w .nodes i .held) ≡ s
+      → Left (conclude d s) (settle out body (conclude d s))
   settled out body h absent e = record {
     node = refl;
     queue = refl;
@@ -123,7 +128,8 @@ module _ (n cap : ℕ) (w : messages.World) (g : Good n (λ i. cap) w) (few : le
       subst (Left (deliver d))
       (sym (cond-no (brokenRecord r) (refuseDeliver 2 r q out body) (cond (short out body) (refuseDeliver 3 r q out body) t₄) (record-kept n cap w g few i hi)
       ∙ cond-no (short out body) (refuseDeliver 3 r q out body) t₄ long
-      ∙ cond-no (wrongQueue (nodeOf r []) (length (w .nodes i .held)) q) (refuseDeliver 4 r q out body) (settle out body o) (queue-passes n cap w g few bodies i hi)
+      ∙ cond-no (wrongQueue (nodeOf r []) (length (w .nodes i .held)) q) (refuseDeliver 4 r q out body) (settle out body o)
+      (queue-passes n cap w g few bodies i hi)
       ∙ ap (λ (z : MessageNode). settle out body (deliver z)) (whole-back n cap w g few bodies i hi)))
       (subst (λ (o : protocol.Outcome). Left o (settle out body o)) (sym e) (settled out body h (search (deliverable d) (w .nodes i .held)) refl))
     where
@@ -140,4 +146,5 @@ module _ (n cap : ℕ) (w : messages.World) (g : Good n (λ i. cap) w) (few : le
       let o : protocol.Outcome = deliver (nodeOf r (heldMessages (length (w .nodes i .held)) q)) in
       let t₄ : AfterDeliver = cond (wrongQueue (nodeOf r []) (length (w .nodes i .held)) q) (refuseDeliver 4 r q out body) (settle out body o) in
       cond-no (brokenRecord r) (refuseDeliver 2 r q out body) (cond (short out body) (refuseDeliver 3 r q out body) t₄) (record-kept n cap w g few i hi)
-      ∙ cond-yes (short out body) (refuseDeliver 3 r q out body) t₄ (either-T (ltb (length out) outSize || ltb (length body) maxBody) (not (eqb (length q) queueSize)) (inl h))
+      ∙ cond-yes (short out body) (refuseDeliver 3 r q out body) t₄
+      (either-T (ltb (length out) outSize || ltb (length body) maxBody) (not (eqb (length q) queueSize)) (inl h))

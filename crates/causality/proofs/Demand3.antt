@@ -70,7 +70,8 @@ pub demand3 : Demand3
 demand3 n cap inside steps bytes short = world-demand3 n cap inside steps bytes short
 
 pub listRefusals : ListRefusals
-listRefusals n cap inside steps bytes short = list-refusals n (w n cap inside steps bytes short) (b n cap inside steps bytes short) (m n cap inside steps bytes short)
+listRefusals n cap inside steps bytes short =
+    list-refusals n (w n cap inside steps bytes short) (b n cap inside steps bytes short) (m n cap inside steps bytes short)
 
 -- its last part, for each destination
 pub each-destination : EachDestination

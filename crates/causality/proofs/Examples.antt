@@ -1,4 +1,5 @@
--- The definitions, run on bytes: the mission's story with what the theorem says of it, an extra frame issued and delivered, two messages in opposite orders, and refusals.
+-- The definitions, run on bytes: the mission's story with what the theorem says of it,
+-- an extra frame issued and delivered, two messages in opposite orders, and refusals.
 use Prim.Native.Nat.{_<_, ℕ}
 use mathlib.Core.Bool.{Bool, false, true}
 use mathlib.Core.List.{List, [], _∷_, map}
@@ -7,12 +8,14 @@ use native.Mathlib.Omega.{arith}
 use lib.ListN.{drop, replicate}
 use Rattle.arrival.specs.View.{arrivalRefusal}
 use Rattle.causality.proofs.Demand3.{demand3}
-use Rattle.causality.specs.Demand3.{Answer, BodiesOfBytes, DeliveredAt, Demand3For, Event, HappenedBefore, Issue, Step, World, chain, cutFor, delivered, delivers, issuedBy, message, offered, offers, run, sameNode, sends, sent, start, step}
+use Rattle.causality.specs.Demand3.{Answer, BodiesOfBytes, DeliveredAt, Demand3For, Event, HappenedBefore, Issue, Step, World, chain, cutFor}
+use Rattle.causality.specs.Demand3.{delivered, delivers, issuedBy, message, offered, offers, run, sameNode, sends, sent, start, step}
 use Rattle.frame.specs.Entries.{entriesBytes, entriesFrom, entriesOf, entryAt, entryBytes, listed, matrixOf, placed}
 use Rattle.frame.specs.Frame.{decode, encode, front, headerOf}
 use Rattle.frame.specs.Frames.{framesOf}
 use Rattle.frame.specs.Header.{header, headerBytes, ownLength}
-use Rattle.frame.specs.Refusals.{precedes, eachOk, entryOk, frameRefusal, rising, risingAfter, wrongAddress, wrongBody, wrongContent, wrongEntries, wrongKind, wrongTrailer}
+use Rattle.frame.specs.Refusals.{precedes, eachOk, entryOk, frameRefusal, rising, risingAfter, wrongAddress}
+use Rattle.frame.specs.Refusals.{wrongBody, wrongContent, wrongEntries, wrongKind, wrongTrailer}
 use Rattle.holdback.specs.WrongQueue.{heldRefused, sameBytes, someAlike, someRefused, wrongQueue}
 use Rattle.holdback.specs.Slots.{frameIn, heldFrames, padded, slots, without, zeros}
 use Rattle.matrix.specs.Array.{entry, flat}
@@ -107,7 +110,11 @@ abbrev storyFrames : List Issue
 storyFrames = issuedBy 0 closingFrame ∷ issuedBy 1 closedFrame ∷ issuedBy 4 reportFrame ∷ []
 
 pub story-frames : after story .log ≡ storyFrames
-unfolding story step setUp inRange cutFor sendCall offerCall deliverCall brokenRecord brokenRules zeroDiagonal zeroColumn withinLimit zeroFrom count columnCount flat entry atLimit protocolSend.send protocolOffer.offer protocolDeliver.deliver deliverable trimFor fullest clear only merge framesOf encode sealed front headerBytes headerOf header ownLength entriesBytes entryBytes entriesOf listed placed entriesFrom entryAt matrixOf le16 le32 u16At u32At bytes.put trailer trailers.counted checksum total decode wrongQueue sameBytes heldRefused someRefused someAlike arrivalRefusal frameRefusal wrongTrailer hasTrailer countBack sumBack wrongKind wrongAddress wrongContent wrongBody wrongEntries eachOk entryOk precedes rising risingAfter zeros padded slots frameIn heldFrames without
+unfolding story step setUp inRange cutFor sendCall offerCall deliverCall brokenRecord brokenRules zeroDiagonal zeroColumn withinLimit zeroFrom count columnCount
+    flat entry atLimit protocolSend.send protocolOffer.offer protocolDeliver.deliver deliverable trimFor fullest clear only merge framesOf encode sealed front
+    headerBytes headerOf header ownLength entriesBytes entryBytes entriesOf listed placed entriesFrom entryAt matrixOf le16 le32 u16At u32At bytes.put trailer
+    trailers.counted checksum total decode wrongQueue sameBytes heldRefused someRefused someAlike arrivalRefusal frameRefusal wrongTrailer hasTrailer countBack
+    sumBack wrongKind wrongAddress wrongContent wrongBody wrongEntries eachOk entryOk precedes rising risingAfter zeros padded slots frameIn heldFrames without
 story-frames = refl
 
 -- a step that was made at node i
@@ -130,7 +137,11 @@ storyEvents =
     ∷ []
 
 pub story-events : after story .history ≡ storyEvents
-unfolding story step setUp inRange cutFor sendCall offerCall deliverCall brokenRecord brokenRules zeroDiagonal zeroColumn withinLimit zeroFrom count columnCount flat entry atLimit protocolSend.send protocolOffer.offer protocolDeliver.deliver deliverable trimFor fullest clear only merge framesOf encode sealed front headerBytes headerOf header ownLength entriesBytes entryBytes entriesOf listed placed entriesFrom entryAt matrixOf le16 le32 u16At u32At bytes.put trailer trailers.counted checksum total decode wrongQueue sameBytes heldRefused someRefused someAlike arrivalRefusal frameRefusal wrongTrailer hasTrailer countBack sumBack wrongKind wrongAddress wrongContent wrongBody wrongEntries eachOk entryOk precedes rising risingAfter zeros padded slots frameIn heldFrames without
+unfolding story step setUp inRange cutFor sendCall offerCall deliverCall brokenRecord brokenRules zeroDiagonal zeroColumn withinLimit zeroFrom count columnCount
+    flat entry atLimit protocolSend.send protocolOffer.offer protocolDeliver.deliver deliverable trimFor fullest clear only merge framesOf encode sealed front
+    headerBytes headerOf header ownLength entriesBytes entryBytes entriesOf listed placed entriesFrom entryAt matrixOf le16 le32 u16At u32At bytes.put trailer
+    trailers.counted checksum total decode wrongQueue sameBytes heldRefused someRefused someAlike arrivalRefusal frameRefusal wrongTrailer hasTrailer countBack
+    sumBack wrongKind wrongAddress wrongContent wrongBody wrongEntries eachOk entryOk precedes rising risingAfter zeros padded slots frameIn heldFrames without
 story-events = refl
 
 -- the send of "closing" happened before the send of the report, by way of "closed"
@@ -139,7 +150,8 @@ unfolding header decode entriesFrom entryAt u32At matrixOf
 before-report =
     chain 0 1 4 (sameNode 0 1 (made 0 (sends 0 2 closing out) (wrote 19)) (made 0 (sends 0 1 closed out) (wrote 24)) (omega arith) refl refl refl refl refl)
     (chain 1 3 4
-    (message 1 3 1 (issuedBy 1 closedFrame) refl refl refl (record { event = made 1 (delivers 1 out text) (gets 1 0 1 1 6 0 0); at = refl; here = refl; names = refl }))
+    (message 1 3 1 (issuedBy 1 closedFrame) refl refl refl
+    (record { event = made 1 (delivers 1 out text) (gets 1 0 1 1 6 0 0); at = refl; here = refl; names = refl }))
     (sameNode 3 4 (made 1 (delivers 1 out text) (gets 1 0 1 1 6 0 0)) (made 1 (sends 1 2 report out) (wrote 24)) (omega arith) refl refl refl refl refl))
 
 pub story-before : HappenedBefore (after story .log) (after story .history) 0 4
@@ -190,12 +202,20 @@ tie-answers : answers tie
     ≡ wrote 12 ∷ wrote 18 ∷ wrote 12 ∷ wrote 18 ∷ wrote 12 ∷ wrote 18
     ∷ holds 1 true ∷ gets 1 1 1 1 0 0 0 ∷ holds 1 true ∷ gets 1 2 1 1 0 24 1
     ∷ holds 1 true ∷ gets 1 0 1 1 0 0 0 ∷ holds 1 true ∷ gets 1 2 1 1 0 0 0 ∷ holds 1 true ∷ gets 2 0 2 1 0 0 0 ∷ []
-unfolding tie step setUp inRange cutFor sendCall offerCall deliverCall brokenRecord brokenRules zeroDiagonal zeroColumn withinLimit zeroFrom count columnCount flat entry atLimit protocolSend.send protocolOffer.offer protocolDeliver.deliver deliverable trimFor fullest clear only merge framesOf encode sealed front headerBytes headerOf header ownLength entriesBytes entryBytes entriesOf listed placed entriesFrom entryAt matrixOf le16 le32 u16At u32At bytes.put trailer trailers.counted checksum total decode wrongQueue sameBytes heldRefused someRefused someAlike arrivalRefusal frameRefusal wrongTrailer hasTrailer countBack sumBack wrongKind wrongAddress wrongContent wrongBody wrongEntries eachOk entryOk precedes rising risingAfter zeros padded slots frameIn heldFrames without
+unfolding tie step setUp inRange cutFor sendCall offerCall deliverCall brokenRecord brokenRules zeroDiagonal zeroColumn withinLimit zeroFrom count columnCount
+    flat entry atLimit protocolSend.send protocolOffer.offer protocolDeliver.deliver deliverable trimFor fullest clear only merge framesOf encode sealed front
+    headerBytes headerOf header ownLength entriesBytes entryBytes entriesOf listed placed entriesFrom entryAt matrixOf le16 le32 u16At u32At bytes.put trailer
+    trailers.counted checksum total decode wrongQueue sameBytes heldRefused someRefused someAlike arrivalRefusal frameRefusal wrongTrailer hasTrailer countBack
+    sumBack wrongKind wrongAddress wrongContent wrongBody wrongEntries eachOk entryOk precedes rising risingAfter zeros padded slots frameIn heldFrames without
 tie-answers = refl
 
 -- it carries (0,1) = 1 and (2,1) = 1
 tie-extra : drop 6 (frames tie) ≡ (2 ∷ 0 ∷ 1 ∷ 2 ∷ 0 ∷ 3 ∷ 3 ∷ 0 ∷ 0 ∷ 1 ∷ 1 ∷ 0 ∷ 0 ∷ 0 ∷ 2 ∷ 1 ∷ 1 ∷ 0 ∷ 0 ∷ 0 ∷ 20 ∷ 0 ∷ 37 ∷ 0 ∷ []) ∷ []
-unfolding tie step setUp inRange cutFor sendCall offerCall deliverCall brokenRecord brokenRules zeroDiagonal zeroColumn withinLimit zeroFrom count columnCount flat entry atLimit protocolSend.send protocolOffer.offer protocolDeliver.deliver deliverable trimFor fullest clear only merge framesOf encode sealed front headerBytes headerOf header ownLength entriesBytes entryBytes entriesOf listed placed entriesFrom entryAt matrixOf le16 le32 u16At u32At bytes.put trailer trailers.counted checksum total decode wrongQueue sameBytes heldRefused someRefused someAlike arrivalRefusal frameRefusal wrongTrailer hasTrailer countBack sumBack wrongKind wrongAddress wrongContent wrongBody wrongEntries eachOk entryOk precedes rising risingAfter zeros padded slots frameIn heldFrames without
+unfolding tie step setUp inRange cutFor sendCall offerCall deliverCall brokenRecord brokenRules zeroDiagonal zeroColumn withinLimit zeroFrom count columnCount
+    flat entry atLimit protocolSend.send protocolOffer.offer protocolDeliver.deliver deliverable trimFor fullest clear only merge framesOf encode sealed front
+    headerBytes headerOf header ownLength entriesBytes entryBytes entriesOf listed placed entriesFrom entryAt matrixOf le16 le32 u16At u32At bytes.put trailer
+    trailers.counted checksum total decode wrongQueue sameBytes heldRefused someRefused someAlike arrivalRefusal frameRefusal wrongTrailer hasTrailer countBack
+    sumBack wrongKind wrongAddress wrongContent wrongBody wrongEntries eachOk entryOk precedes rising risingAfter zeros padded slots frameIn heldFrames without
 tie-extra = refl
 
 -- ---- no common order is imposed: of two unrelated senders, 0 and 1, node 2 delivers 0 first, and node 3 delivers 1 first
@@ -219,10 +239,16 @@ opposite-answers : map (λ (e : Event). e .answer) (run 4 (start 4 4) opposite .
     ≡ wrote 12 ∷ wrote 18 ∷ wrote 12 ∷ wrote 18
     ∷ holds 1 true ∷ gets 1 0 1 1 0 0 0 ∷ holds 1 true ∷ gets 1 1 1 1 0 0 0
     ∷ holds 1 true ∷ gets 1 1 1 1 0 0 0 ∷ holds 1 true ∷ gets 1 0 1 1 0 0 0 ∷ []
-unfolding opposite step setUp inRange cutFor sendCall offerCall deliverCall brokenRecord brokenRules zeroDiagonal zeroColumn withinLimit zeroFrom count columnCount flat entry atLimit protocolSend.send protocolOffer.offer protocolDeliver.deliver deliverable trimFor fullest clear only merge framesOf encode sealed front headerBytes headerOf header ownLength entriesBytes entryBytes entriesOf listed placed entriesFrom entryAt matrixOf le16 le32 u16At u32At bytes.put trailer trailers.counted checksum total decode wrongQueue sameBytes heldRefused someRefused someAlike arrivalRefusal frameRefusal wrongTrailer hasTrailer countBack sumBack wrongKind wrongAddress wrongContent wrongBody wrongEntries eachOk entryOk precedes rising risingAfter zeros padded slots frameIn heldFrames without
+unfolding opposite step setUp inRange cutFor sendCall offerCall deliverCall brokenRecord brokenRules zeroDiagonal zeroColumn withinLimit zeroFrom count
+    columnCount flat entry atLimit protocolSend.send protocolOffer.offer protocolDeliver.deliver deliverable trimFor fullest clear only merge framesOf encode
+    sealed front headerBytes headerOf header ownLength entriesBytes entryBytes entriesOf listed placed entriesFrom entryAt matrixOf le16 le32 u16At u32At
+    bytes.put trailer trailers.counted checksum total decode wrongQueue sameBytes heldRefused someRefused someAlike arrivalRefusal frameRefusal wrongTrailer
+    hasTrailer countBack sumBack wrongKind wrongAddress wrongContent wrongBody wrongEntries eachOk entryOk precedes rising risingAfter zeros padded slots
+    frameIn heldFrames without
 opposite-answers = refl
 
--- ---- calls that are refused, and what is no step: a short output, a body of 65 bytes, a frame at a wrong node, held already, delivered before; a node that is not there, an issue not made
+-- ---- calls that are refused, and what is no step: a short output, a body of 65 bytes, a frame at a wrong node, held already,
+-- delivered before; a node that is not there, an issue not made
 unfoldable pub refusals : List Step
 refusals =
     sends 0 1 [] (replicate 2047 0)
@@ -241,6 +267,12 @@ refusals =
 
 refusals-answers : answers refusals
     ≡ sent (send.Refused 3) ∷ sent (send.Refused 7) ∷ sent (send.Refused 6) ∷ wrote 12
-    ∷ offered (offer.Refused 12) ∷ holds 1 true ∷ offered (offer.Refused 15) ∷ delivered (deliver.Refused 3) ∷ gets 1 0 1 1 0 0 0 ∷ offered (offer.Refused 14) ∷ []
-unfolding refusals step setUp inRange cutFor sendCall offerCall deliverCall brokenRecord brokenRules zeroDiagonal zeroColumn withinLimit zeroFrom count columnCount flat entry atLimit protocolSend.send protocolOffer.offer protocolDeliver.deliver deliverable trimFor fullest clear only merge framesOf encode sealed front headerBytes headerOf header ownLength entriesBytes entryBytes entriesOf listed placed entriesFrom entryAt matrixOf le16 le32 u16At u32At bytes.put trailer trailers.counted checksum total decode wrongQueue sameBytes heldRefused someRefused someAlike arrivalRefusal frameRefusal wrongTrailer hasTrailer countBack sumBack wrongKind wrongAddress wrongContent wrongBody wrongEntries eachOk entryOk precedes rising risingAfter zeros padded slots frameIn heldFrames without
+    ∷ offered (offer.Refused 12) ∷ holds 1 true ∷ offered (offer.Refused 15) ∷ delivered (deliver.Refused 3)
+    ∷ gets 1 0 1 1 0 0 0 ∷ offered (offer.Refused 14) ∷ []
+unfolding refusals step setUp inRange cutFor sendCall offerCall deliverCall brokenRecord brokenRules zeroDiagonal zeroColumn withinLimit zeroFrom count
+    columnCount flat entry atLimit protocolSend.send protocolOffer.offer protocolDeliver.deliver deliverable trimFor fullest clear only merge framesOf encode
+    sealed front headerBytes headerOf header ownLength entriesBytes entryBytes entriesOf listed placed entriesFrom entryAt matrixOf le16 le32 u16At u32At
+    bytes.put trailer trailers.counted checksum total decode wrongQueue sameBytes heldRefused someRefused someAlike arrivalRefusal frameRefusal wrongTrailer
+    hasTrailer countBack sumBack wrongKind wrongAddress wrongContent wrongBody wrongEntries eachOk entryOk precedes rising risingAfter zeros padded slots
+    frameIn heldFrames without
 refusals-answers = refl

@@ -35,7 +35,8 @@ unfolding cutFor
 cut-more k [] r o = absurd (omega (arith, own-least (header [])))
 cut-more k (b ∷ s) r o =
     let e : ownLength (header (b ∷ s ++ r)) ≡ length (b ∷ s) = ap ownLength (header-append (b ∷ s) r (omega (arith, own-least (header (b ∷ s))))) ∙ o in
-    ap₂ (λ (x : List ℕ) (y : List (List ℕ)). x ∷ y) (take-at (b ∷ s) r (ownLength (header (b ∷ s ++ r))) (sym e)) (ap (cutFor k) (drop-at (b ∷ s) r (ownLength (header (b ∷ s ++ r))) (sym e)))
+    ap₂ (λ (x : List ℕ) (y : List (List ℕ)). x ∷ y) (take-at (b ∷ s) r (ownLength (header (b ∷ s ++ r))) (sym e))
+    (ap (cutFor k) (drop-at (b ∷ s) r (ownLength (header (b ∷ s ++ r))) (sym e)))
 
 cut-none : (k : ℕ) → cutFor k [] ≡ []
 unfolding cutFor
@@ -62,7 +63,8 @@ pub cut-nothing : (out : List ℕ) → framesIn (take 0 out) ≡ []
 cut-nothing out = cut-none 0
 
 -- what is written from the front of an output on, and counted, is cut into its frames
-pub issued-frames : (out : List ℕ) (l : List Message) → length (framesOf l) ≤ length out → framesIn (take (length (framesOf l)) (write out 0 (framesOf l))) ≡ map encode l
+pub issued-frames : (out : List ℕ) (l : List Message) → length (framesOf l) ≤ length out
+    → framesIn (take (length (framesOf l)) (write out 0 (framesOf l))) ≡ map encode l
 issued-frames out l h = ap framesIn (put-back out 0 (framesOf l) (omega arith)) ∙ cut-frames l
 
 -- a send's frames fit 2,048 bytes
@@ -75,12 +77,14 @@ pub trim-bare : (k me n cap : ℕ) (m : Matrix) (p : ℕ) (f : Message) → getE
 unfolding trimFor
 trim-bare zero me n cap m p f e = absurd (at-none p f e)
 trim-bare (suc k) me n cap m p f e =
-    cond-elim (λ (t : Trimmed). getElem? (t .extras) p ≡ some f → f .body ≡ []) (leb (count m) cap) (untouched m) (issuing (extraMessage me (fullest m) n cap m) (trimFor k me n cap (clear me (fullest m) m)))
+    cond-elim (λ (t : Trimmed). getElem? (t .extras) p ≡ some f → f .body ≡ []) (leb (count m) cap) (untouched m)
+    (issuing (extraMessage me (fullest m) n cap m) (trimFor k me n cap (clear me (fullest m) m)))
     (λ _ e. absurd (at-none p f e)) (λ _. go p (λ q. trim-bare k me n cap (clear me (fullest m) m) q f)) e
   where
     rest : Trimmed
     rest = trimFor k me n cap (clear me (fullest m) m)
 
-    go : (p : ℕ) → ((q : ℕ) → getElem? (rest .extras) q ≡ some f → f .body ≡ []) → getElem? (extraMessage me (fullest m) n cap m ∷ rest .extras) p ≡ some f → f .body ≡ []
+    go : (p : ℕ) → ((q : ℕ) → getElem? (rest .extras) q ≡ some f → f .body ≡ [])
+        → getElem? (extraMessage me (fullest m) n cap m ∷ rest .extras) p ≡ some f → f .body ≡ []
     go zero ih e = let z : extraMessage me (fullest m) n cap m ≡ f = cc in ap (λ (x : Message). x .body) (sym z)
     go (suc p) ih e = ih p e

@@ -1,4 +1,5 @@
--- A world of messages and a world of bytes match: records and queues are those of the nodes, the log is of the messages' frames, and the histories say the same. Assumes nothing.
+-- A world of messages and a world of bytes match: records and queues are those of the nodes,
+-- the log is of the messages' frames, and the histories say the same. Assumes nothing.
 use Prim.Native.Nat.{_+_, _<_, suc, zero, ℕ}
 use mathlib.Core.Bool.{cond}
 use mathlib.Core.List.{List, [], _++_, _∷_, map, map-append, map-map}
@@ -9,7 +10,8 @@ use native.Mathlib.Decide.{ℕ-discrete}
 use lib.Dec.{eqb}
 use lib.ListN.{getElem?, length}
 use Rattle.causality.proofs.Queues.{Bodies}
-use Rattle.causality.specs.Demand3.{Answer, Event, Issue, Label, Step, World, accepted, afterCall, answersAt, deliveries, delivery, issuedBy, issuedFrames, offers, offersAccepted}
+use Rattle.causality.specs.Demand3.{Answer, Event, Issue, Label, Step, World, accepted, afterCall, answersAt}
+use Rattle.causality.specs.Demand3.{deliveries, delivery, issuedBy, issuedFrames, offers, offersAccepted}
 use Rattle.causality.specs.ListRefusals.{Expected}
 use Rattle.frame.specs.Frame.{encode}
 use Rattle.frame.specs.Header.{kindByte}
@@ -65,23 +67,27 @@ pub same-length : (l : List messages.Event) (k : List Event) → SameHistory l k
 same-length _ _ empty = refl
 same-length _ _ (next e f l k s r) = ap suc (same-length l k r)
 
-same-snoc : (l : List messages.Event) (k : List Event) (e : messages.Event) (f : Event) → SameHistory l k → SameEvent e f → SameHistory (l ++ (e ∷ [])) (k ++ (f ∷ []))
+same-snoc : (l : List messages.Event) (k : List Event) (e : messages.Event) (f : Event) → SameHistory l k → SameEvent e f
+    → SameHistory (l ++ (e ∷ [])) (k ++ (f ∷ []))
 same-snoc _ _ e f empty s = next e f [] [] s empty
 same-snoc _ _ e f (next e′ f′ l k s′ r) s = next e′ f′ (l ++ (e ∷ [])) (k ++ (f ∷ [])) s′ (same-snoc l k e f r s)
 
 -- the event at a place, there and back
-pub same-there : (l : List messages.Event) (k : List Event) → SameHistory l k → (t : ℕ) (e : messages.Event) → getElem? l t ≡ some e → (f : Event) × (getElem? k t ≡ some f) × SameEvent e f
+pub same-there : (l : List messages.Event) (k : List Event) → SameHistory l k → (t : ℕ) (e : messages.Event) → getElem? l t ≡ some e
+    → (f : Event) × (getElem? k t ≡ some f) × SameEvent e f
 same-there _ _ empty t e a = absurd (at-none t e a)
 same-there _ _ (next e′ f l k s r) zero e a = let z : e′ ≡ e = cc in (f, refl, subst (λ (x : messages.Event). SameEvent x f) z s)
 same-there _ _ (next e′ f l k s r) (suc t) e a = same-there l k r t e a
 
-pub same-back : (l : List messages.Event) (k : List Event) → SameHistory l k → (t : ℕ) (f : Event) → getElem? k t ≡ some f → (e : messages.Event) × (getElem? l t ≡ some e) × SameEvent e f
+pub same-back : (l : List messages.Event) (k : List Event) → SameHistory l k → (t : ℕ) (f : Event) → getElem? k t ≡ some f
+    → (e : messages.Event) × (getElem? l t ≡ some e) × SameEvent e f
 same-back _ _ empty t f a = absurd (at-none t f a)
 same-back _ _ (next e f′ l k s r) zero f a = let z : f′ ≡ f = cc in (e, refl, subst (λ (x : Event). SameEvent e x) z s)
 same-back _ _ (next e f′ l k s r) (suc t) f a = same-back l k r t f a
 
 -- how often a node has answered so
-pub same-answers : (p : protocol.Answer → ℕ) (q : Answer → ℕ) → ((a : protocol.Answer) (b : Answer) → SameAnswer a b → q b ≡ p a) → (j : ℕ) (l : List messages.Event) (k : List Event) → SameHistory l k
+pub same-answers : (p : protocol.Answer → ℕ) (q : Answer → ℕ) → ((a : protocol.Answer) (b : Answer) → SameAnswer a b → q b ≡ p a)
+    → (j : ℕ) (l : List messages.Event) (k : List Event) → SameHistory l k
     → answersAt q j k ≡ stated.answersAt p j l
 same-answers p q h j _ _ empty = refl
 same-answers p q h j _ _ (next e f l k s r) =
@@ -114,7 +120,8 @@ module _ (n : ℕ) (w : messages.World) (b : World) (m : Matches n w b) (i : ℕ
       go (yes z) = rw z (update-same v i y ∙ e ∙ ap f (sym (update-same u i x)))
       go (no z) = update-other v i y k z ∙ h ∙ ap f (sym (update-other u i x k z))
 
-  same-log : b .log ++ map (issuedBy (length (b .history))) (issuedFrames a out) ≡ map encodeIssue (w .log ++ map (messages.issuedBy (length (w .history))) (protocol.issued (o .answer)))
+  same-log : b .log ++ map (issuedBy (length (b .history))) (issuedFrames a out)
+      ≡ map encodeIssue (w .log ++ map (messages.issuedBy (length (w .history))) (protocol.issued (o .answer)))
   same-log =
       ap₂ (λ (x : List Issue) (y : List (List ℕ)). x ++ map (issuedBy (length (b .history))) y) (m .log) (g .frames)
       ∙ ap (λ (x : ℕ). map encodeIssue (w .log) ++ map (issuedBy x) (map encode l)) (same-length (w .history) (b .history) (m .history))
@@ -132,11 +139,13 @@ module _ (n : ℕ) (w : messages.World) (b : World) (m : Matches n w b) (i : ℕ
     records = λ k h. update-both recordOf (w .nodes) (b .records) (o .node) r (g .node) k (m .records k h);
     queues = λ k h. update-both (λ (d : MessageNode). laid (map encode (d .held))) (w .nodes) (b .queues) (o .node) q (g .queue) k (m .queues k h);
     log = same-log;
-    history = same-snoc (w .history) (b .history) (record { node = i; step = s; answer = o .answer }) (record { node = i; step = t; answer = a }) (m .history) (record { node = refl; step = same; answer = g .answer });
+    history = same-snoc (w .history) (b .history) (record { node = i; step = s; answer = o .answer }) (record { node = i; step = t; answer = a }) (m .history)
+        (record { node = refl; step = same; answer = g .answer });
     bodies = λ p f at. body p f (at-append (w .log) (map (messages.issuedBy (length (w .history))) (protocol.issued (o .answer))) p f at);
   }
     where
-      body : (p : ℕ) (f : messages.Issue) → messages.IssueAt w p f ⊎ ((k : ℕ) × (getElem? (map (messages.issuedBy (length (w .history))) (protocol.issued (o .answer))) k ≡ some f)) → AllBytes (f .message .body)
+      body : (p : ℕ) (f : messages.Issue) → messages.IssueAt w p f
+          ⊎ ((k : ℕ) × (getElem? (map (messages.issuedBy (length (w .history))) (protocol.issued (o .answer))) k ≡ some f)) → AllBytes (f .message .body)
       body p f (inl h) = m .bodies p f h
       body p f (inr h) =
           let x = map-at (messages.issuedBy (length (w .history))) (protocol.issued (o .answer)) (h .0) f (h .1) in

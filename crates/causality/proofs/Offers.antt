@@ -82,12 +82,20 @@ module _ (n cap : ℕ) (w : messages.World) (g : Good n (λ i. cap) w) (few : le
   pub whole-back : nodeOf r (heldMessages (length (w .nodes i .held)) q) ≡ d
   whole-back =
       node-back n cap w g few i hi (heldMessages (length (w .nodes i .held)) q)
-      ∙ ap (λ (l : List Message). record { me = i; n = n; cap = cap; matrix = w .nodes i .matrix; deliv = w .nodes i .deliv; held = l }) (messages-back n cap w g few bodies i hi)
+      ∙ ap (λ (l : List Message). record {
+        me = i;
+        n = n;
+        cap = cap;
+        matrix = w .nodes i .matrix;
+        deliv = w .nodes i .deliv;
+        held = l;
+      }) (messages-back n cap w g few bodies i hi)
 
   -- check 4 is not met
   pub queue-passes : T (not (wrongQueue (nodeOf r []) (length (w .nodes i .held)) q))
   queue-passes =
-      subst (λ (z : MessageNode). T (not (wrongQueue z (length (w .nodes i .held)) q))) (sym (node-back n cap w g few i hi [])) (queue-here n cap w g few bodies i hi)
+      subst (λ (z : MessageNode). T (not (wrongQueue z (length (w .nodes i .held)) q)))
+      (sym (node-back n cap w g few i hi [])) (queue-here n cap w g few bodies i hi)
 
   -- what an offer leaves
   abbrev Left : protocol.Outcome → AfterOffer → Type 0
@@ -101,12 +109,15 @@ module _ (n cap : ℕ) (w : messages.World) (g : Good n (λ i. cap) w) (few : le
   says-no k t x = record { refuses = is-false (eqb k 0) t; nothing = refl; holds = refl; gives = refl; counts = refl; expected = x }
 
   settled : (m : Message) → Case d m → Left (offer d m) (settle (encode m) (offer d m))
-  settled m (refuses k t x e) = subst (λ (o : protocol.Outcome). Left o (settle (encode m) o)) (sym e) (refused-agrees d k (offered (answer.Refused k)) [] (says-no k t x))
+  settled m (refuses k t x e) =
+      subst (λ (o : protocol.Outcome). Left o (settle (encode m) o)) (sym e) (refused-agrees d k (offered (answer.Refused k)) [] (says-no k t x))
   settled m (accepts e) =
       subst (λ (o : protocol.Outcome). Left o (settle (encode m) o)) (sym e)
       (record {
         node = refl;
-        queue = ap (λ (l : List (List ℕ)). laid (l ++ (encode m ∷ []))) (frames-back n cap w g few bodies i hi) ∙ ap laid (sym (map-append encode (w .nodes i .held) (m ∷ [])));
+        queue =
+            ap (λ (l : List (List ℕ)). laid (l ++ (encode m ∷ []))) (frames-back n cap w g few bodies i hi)
+            ∙ ap laid (sym (map-append encode (w .nodes i .held) (m ∷ [])));
         answer = record { acceptance = refl; names = refl; taken = refl; given = refl; expected = inl refl };
         frames = cut-nothing [];
         bodies = λ p f a. absurd (at-none p f a);
@@ -122,8 +133,10 @@ module _ (n cap : ℕ) (w : messages.World) (g : Good n (λ i. cap) w) (few : le
       let t₄ : AfterOffer = cond (wrongQueue (nodeOf r []) (length (w .nodes i .held)) q) (refuseOffer 4 r q) t₈ in
       subst (Left (offer d (f .message)))
       (sym (cond-no (brokenRecord r) (refuseOffer 2 r q) (cond (not (eqb (length q) queueSize)) (refuseOffer 3 r q) t₄) (record-kept n cap w g few i hi)
-      ∙ cond-no (not (eqb (length q) queueSize)) (refuseOffer 3 r q) t₄ (T-not-not (eqb (length q) queueSize) (eq→eqb (length q) queueSize (queue-length n cap w g few bodies i hi)))
+      ∙ cond-no (not (eqb (length q) queueSize)) (refuseOffer 3 r q) t₄
+      (T-not-not (eqb (length q) queueSize) (eq→eqb (length q) queueSize (queue-length n cap w g few bodies i hi)))
       ∙ cond-no (wrongQueue (nodeOf r []) (length (w .nodes i .held)) q) (refuseOffer 4 r q) t₈ queue-passes
-      ∙ cond-no (not (eqb (frameRefusal n cap s) 0)) (refuseOffer (frameRefusal n cap s) r q) (settle s o) (T-not-not (eqb (frameRefusal n cap s) 0) (eq→eqb (frameRefusal n cap s) 0 (frame-passes n cap w g few bodies p f at)))
+      ∙ cond-no (not (eqb (frameRefusal n cap s) 0)) (refuseOffer (frameRefusal n cap s) r q) (settle s o)
+      (T-not-not (eqb (frameRefusal n cap s) 0) (eq→eqb (frameRefusal n cap s) 0 (frame-passes n cap w g few bodies p f at)))
       ∙ ap₂ (λ (z : MessageNode) (m : Message). settle s (offer z m)) whole-back (decode-encode (f .message) (sound-issue n cap w g few bodies p f at))))
       (settled (f .message) (case d (f .message) (claims-little n (λ k. cap) w g p f at i)))

@@ -49,7 +49,8 @@ module _ (n cap : ℕ) (w : messages.World) (g : Good n (λ i. cap) w) (few : le
   pub frame-passes : (p : ℕ) (f : messages.Issue) → messages.IssueAt w p f → frameRefusal n cap (encode (f .message)) ≡ 0
   frame-passes p f at =
       let s = g .sound p f at in
-      subst (λ (k : ℕ). frameRefusal k cap (encode (f .message)) ≡ 0) (s .sized) (subst (λ (c : ℕ). frameRefusal (f .message .n) c (encode (f .message)) ≡ 0) (s .capped) (encode-sound (f .message) (sound-issue p f at) .passes))
+      subst (λ (k : ℕ). frameRefusal k cap (encode (f .message)) ≡ 0) (s .sized)
+      (subst (λ (c : ℕ). frameRefusal (f .message .n) c (encode (f .message)) ≡ 0) (s .capped) (encode-sound (f .message) (sound-issue p f at) .passes))
 
   -- node i
   module _ (i : ℕ) (hi : i < n) where
@@ -69,7 +70,9 @@ module _ (n cap : ℕ) (w : messages.World) (g : Good n (λ i. cap) w) (few : le
     held-sound h m a = let o = origin h m a in subst Sound (o .message) (sound-issue (o .issue) (o .g) (o .logged))
 
     held-passes : (h : ℕ) (m : Message) → getElem? heldHere h ≡ some m → frameRefusal n cap (encode m) ≡ 0
-    held-passes h m a = let o = origin h m a in subst (λ (z : Message). frameRefusal n cap (encode z) ≡ 0) (o .message) (frame-passes (o .issue) (o .g) (o .logged))
+    held-passes h m a =
+        let o = origin h m a in
+        subst (λ (z : Message). frameRefusal n cap (encode z) ≡ 0) (o .message) (frame-passes (o .issue) (o .g) (o .logged))
 
     -- 12 to 14 are not met
     held-arrives : (h : ℕ) (m : Message) → getElem? heldHere h ≡ some m → arrivalRefusal (alone n cap w g few i hi) m ≡ 0
@@ -78,7 +81,9 @@ module _ (n cap : ℕ) (w : messages.World) (g : Good n (λ i. cap) w) (few : le
         arrives-back (alone n cap w g few i hi) m
         record {
           here = g .node i hi .queue .to h m a;
-          claims = λ y _. subst (λ (z : Message). z .entries i y ≤ w .nodes i .matrix i y) (o .message) (entry-bound (stateOf w) (g .invariant) (o .issue) (o .g) (o .logged) i y);
+          claims =
+              λ y _. subst (λ (z : Message). z .entries i y ≤ w .nodes i .matrix i y) (o .message)
+              (entry-bound (stateOf w) (g .invariant) (o .issue) (o .g) (o .logged) i y);
           new = g .node i hi .queue .above h m a;
         }
 
@@ -87,7 +92,10 @@ module _ (n cap : ℕ) (w : messages.World) (g : Good n (λ i. cap) w) (few : le
     frames-kept h s a =
         let x = map-at encode heldHere h s a in
         let d : MessageNode = alone n cap w g few i hi in
-        subst (FrameKept d) (x .2) (record { passes = held-passes h (x .0) (x .1); arrives = ap (arrivalRefusal d) (decode-encode (x .0) (held-sound h (x .0) (x .1))) ∙ held-arrives h (x .0) (x .1) })
+        subst (FrameKept d) (x .2) (record {
+          passes = held-passes h (x .0) (x .1);
+          arrives = ap (arrivalRefusal d) (decode-encode (x .0) (held-sound h (x .0) (x .1))) ∙ held-arrives h (x .0) (x .1);
+        })
 
     framed : EachFramed (map encode heldHere)
     framed = framed-all (alone n cap w g few i hi) (map encode heldHere) frames-kept

@@ -6,7 +6,8 @@ use mathlib.Core.Path.{_∙_, _≡_, ap, ap₂, refl, subst, sym}
 use native.Mathlib.Omega.{arith}
 use lib.ListN.{getElem?}
 use Rattle.causality.proofs.Matches.{Matches, encodeIssue, labelOf, named, same-answers, same-back, same-there}
-use Rattle.causality.specs.Demand3.{DeliveredAt, Earliest, HappenedBefore, Held, Issue, IssueAt, Label, User, World, chain, deliveries, heldAt, label, message, offers, offersAccepted, sameNode, Delivered}
+use Rattle.causality.specs.Demand3.{DeliveredAt, Earliest, HappenedBefore, Held, Issue, IssueAt, Label, User, World, chain}
+use Rattle.causality.specs.Demand3.{deliveries, heldAt, label, message, offers, offersAccepted, sameNode, Delivered}
 use Rattle.frame.proofs.EntryLists.{length-entriesOf}
 use Rattle.frame.proofs.Written.{decode-encode, header-encode}
 use Rattle.frame.specs.Frame.{decode, encode, headerOf}
@@ -90,7 +91,9 @@ module _ (n : ℕ) (w : messages.World) (b : World) (m : Matches n w b) (sound :
         event = x .0;
         at = x .1;
         here = sym (x .2 .node) ∙ d .here ∙ to-encode f;
-        names = named-back (protocol.delivery (x .0 .answer)) (protocol.label f) (sym (x .2 .answer .names) ∙ d .names ∙ ap (λ (z : Label). some z) (label-encode f s));
+        names =
+            named-back (protocol.delivery (x .0 .answer)) (protocol.label f)
+            (sym (x .2 .answer .names) ∙ d .names ∙ ap (λ (z : Label). some z) (label-encode f s));
       }
 
   -- happened before, by the frames, is happened before by the messages
@@ -98,12 +101,14 @@ module _ (n : ℕ) (w : messages.World) (b : World) (m : Matches n w b) (sound :
   before-back a c (sameNode _ _ e f l ea fa ae af same) =
       let x = same-back (w .history) (b .history) (m .history) a e ea in
       let y = same-back (w .history) (b .history) (m .history) c f fa in
-      order.sameNode a c (x .0) (y .0) l (x .1) (y .1) (sym (x .2 .answer .acceptance) ∙ ae) (sym (y .2 .answer .acceptance) ∙ af) (sym (x .2 .node) ∙ same ∙ y .2 .node)
+      order.sameNode a c (x .0) (y .0) l (x .1) (y .1) (sym (x .2 .answer .acceptance) ∙ ae)
+      (sym (y .2 .answer .acceptance) ∙ af) (sym (x .2 .node) ∙ same ∙ y .2 .node)
   before-back a c (message _ _ p h at u s d) =
       let x = issue-back p h at in
       let u′ : User (encode (x .0 .message)) = subst (λ (z : Issue). User (z .frame)) (sym (x .2)) u in
       let d′ : DeliveredAt (b .history) c (encode (x .0 .message)) = subst (λ (z : Issue). DeliveredAt (b .history) c (z .frame)) (sym (x .2)) d in
-      order.message a c p (x .0) (x .1) (user-kind (x .0 .message) u′) (ap (λ (z : Issue). z .step) (x .2) ∙ s) (delivered-back c (x .0 .message) (sound p (x .0) (x .1)) d′)
+      order.message a c p (x .0) (x .1) (user-kind (x .0 .message) u′) (ap (λ (z : Issue). z .step) (x .2) ∙ s)
+      (delivered-back c (x .0 .message) (sound p (x .0) (x .1)) d′)
   before-back a c (chain _ k _ l r) = order.chain a k c (before-back a k l) (before-back k c r)
 
   -- some step delivered the frame where some step delivered the message
@@ -149,5 +154,7 @@ module _ (n : ℕ) (w : messages.World) (b : World) (m : Matches n w b) (sound :
   earliest-there p f e = record {
     at = issue-there p f (e .at);
     undelivered = λ d. e .undelivered (some-back (f .message) (sound p f (e .at)) d);
-    earlier = λ q h l at. let x = issue-back q h at in subst (λ (z : Issue). Delivered b (z .frame)) (x .2) (some-there (x .0 .message) (sound q (x .0) (x .1)) (e .earlier q (x .0) l (x .1)));
+    earlier =
+        λ q h l at. let x = issue-back q h at in
+        subst (λ (z : Issue). Delivered b (z .frame)) (x .2) (some-there (x .0 .message) (sound q (x .0) (x .1)) (e .earlier q (x .0) l (x .1)));
   }

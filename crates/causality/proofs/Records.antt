@@ -63,14 +63,17 @@ module _ (n cap : ℕ) (w : messages.World) (g : Good n (λ i. cap) w) (few : le
     where
       go : (x : ℕ) → Dec (x < 12) → getD (listFrom 0 12 (w .nodes i .deliv)) x 0 ≡ w .nodes i .deliv x
       go x (yes h) = getD-list 0 12 (w .nodes i .deliv) x h ∙ ap (w .nodes i .deliv) (zero-add x)
-      go x (no h) = List·getD-eq-default (listFrom 0 12 (w .nodes i .deliv)) 0 {n = x} (omega (arith, length-list 0 12 (w .nodes i .deliv))) ∙ sym (deliv-from x (omega (arith, range .atMost12)))
+      go x (no h) =
+          List·getD-eq-default (listFrom 0 12 (w .nodes i .deliv)) 0 {n = x} (omega (arith, length-list 0 12 (w .nodes i .deliv)))
+          ∙ sym (deliv-from x (omega (arith, range .atMost12)))
 
   -- the node without its queue
   abbrev pub alone : MessageNode
   alone = record { me = i; n = n; cap = cap; matrix = w .nodes i .matrix; deliv = w .nodes i .deliv; held = [] }
 
   -- the node of its record and any queue
-  pub node-back : (l : List Message) → nodeOf (recordOf (nodeAt n (λ k. cap) w i)) l ≡ record { me = i; n = n; cap = cap; matrix = w .nodes i .matrix; deliv = w .nodes i .deliv; held = l }
+  pub node-back : (l : List Message)
+      → nodeOf (recordOf (nodeAt n (λ k. cap) w i)) l ≡ record { me = i; n = n; cap = cap; matrix = w .nodes i .matrix; deliv = w .nodes i .deliv; held = l }
   node-back l = λ z. record { me = i; n = n; cap = cap; matrix = matrix-back z; deliv = vector-back z; held = l }
 
   -- check 2 is not met
@@ -78,7 +81,8 @@ module _ (n cap : ℕ) (w : messages.World) (g : Good n (λ i. cap) w) (few : le
   unfolding brokenRecord
   record-kept =
       of-false (brokenRules i n cap (entry (flat M)) (vector (listFrom 0 12 D)) k)
-      (subst (λ (v : ℕ → ℕ). brokenRules i n cap (entry (flat M)) v k ≡ false) (sym vector-back) (subst (λ (m : Matrix). brokenRules i n cap m D k ≡ false) (sym matrix-back) (rules-kept i n cap M D k kept)))
+      (subst (λ (v : ℕ → ℕ). brokenRules i n cap (entry (flat M)) v k ≡ false) (sym vector-back)
+      (subst (λ (m : Matrix). brokenRules i n cap m D k ≡ false) (sym matrix-back) (rules-kept i n cap M D k kept)))
     where
       M : Matrix
       M = w .nodes i .matrix

@@ -30,7 +30,8 @@ pub record SaysNo (a : Answer) : Type 0 where
   pub expected : Expected a
 
 -- any refusal of a step agrees with any of a call
-pub refused-agrees : (d : MessageNode) (k : ℕ) (a : Answer) (out : List ℕ) → SaysNo a → Agrees (protocol.refuse k d) (recordOf d) (laid (map encode (d .held))) a out
+pub refused-agrees : (d : MessageNode) (k : ℕ) (a : Answer) (out : List ℕ) → SaysNo a
+    → Agrees (protocol.refuse k d) (recordOf d) (laid (map encode (d .held))) a out
 refused-agrees d k a out s = record {
   node = refl;
   queue = refl;
@@ -44,7 +45,8 @@ pub own-refused : (d : MessageNode) → T (not (atLimit d)) → send d (d .me) [
 unfolding send
 own-refused d t =
     cond-no (atLimit d) (protocol.refuse 5 d) rest t
-    ∙ cond-yes (badDestination d (d .me)) (protocol.refuse 6 d) (cond (longBody []) (protocol.refuse 7 d) (sending d (d .me) [])) (either-T (eqb (d .me) (d .me)) (not (ltb (d .me) (d .n))) (inl (eqb-refl (d .me))))
+    ∙ cond-yes (badDestination d (d .me)) (protocol.refuse 6 d) (cond (longBody []) (protocol.refuse 7 d) (sending d (d .me) []))
+    (either-T (eqb (d .me) (d .me)) (not (ltb (d .me) (d .n))) (inl (eqb-refl (d .me))))
   where
     rest : protocol.Outcome
     rest = cond (badDestination d (d .me)) (protocol.refuse 6 d) (cond (longBody []) (protocol.refuse 7 d) (sending d (d .me) []))

@@ -43,8 +43,10 @@ module _ (n cap : ℕ) (w : messages.World) (b : World) (g : Good n (λ i. cap) 
   unfolding messages.step step
   send-step i to body out bytes =
       cond-elim (λ (x : messages.Step). Matches n (messages.step n w x) new) (ltb (length out) outSize) (messages.sends i i []) (messages.sends i to body)
-      (λ s. both n (ltb i n) (messages.afterStep w i (messages.sends i i []) (send (w .nodes i) i [])) w after b (λ t. send-matches-short n cap w b g few m i (ltb→lt i n t) to body out (ltb→lt (length out) outSize s)) m)
-      (λ s. both n (ltb i n) (messages.afterStep w i (messages.sends i to body) (send (w .nodes i) to body)) w after b (λ t. send-matches n cap w b g few m i (ltb→lt i n t) to body out bytes (nltb→le (length out) outSize s)) m)
+      (λ s. both n (ltb i n) (messages.afterStep w i (messages.sends i i []) (send (w .nodes i) i [])) w after b
+      (λ t. send-matches-short n cap w b g few m i (ltb→lt i n t) to body out (ltb→lt (length out) outSize s)) m)
+      (λ s. both n (ltb i n) (messages.afterStep w i (messages.sends i to body) (send (w .nodes i) to body)) w after b
+      (λ t. send-matches n cap w b g few m i (ltb→lt i n t) to body out bytes (nltb→le (length out) outSize s)) m)
     where
       after : World
       after = sendAt b i (sends i to body out) (sendCall (b .records i) to body out)
@@ -54,20 +56,25 @@ module _ (n cap : ℕ) (w : messages.World) (b : World) (g : Good n (λ i. cap) 
 
   offer-step : (i p : ℕ) → Matches n (messages.step n w (forget (offers i p))) (step n b (offers i p))
   unfolding messages.step step
-  offer-step i p = both n (ltb i n) (messages.offerAt w i p (getElem? (w .log) p)) w (offerIssue b i p (getElem? (b .log) p)) b (λ t. go (ltb→lt i n t) (getElem? (w .log) p) refl) m
+  offer-step i p =
+      both n (ltb i n) (messages.offerAt w i p (getElem? (w .log) p)) w (offerIssue b i p (getElem? (b .log) p)) b
+      (λ t. go (ltb→lt i n t) (getElem? (w .log) p) refl) m
     where
       go : i < n → (o : Option messages.Issue) → getElem? (w .log) p ≡ o → Matches n (messages.offerAt w i p o) (offerIssue b i p (getElem? (b .log) p))
       go hi none e =
-          subst (λ (x : Option Issue). Matches n w (offerIssue b i p x)) (sym (ap (λ (l : List Issue). getElem? l p) (m .log) ∙ none-map encodeIssue (w .log) p e)) m
+          subst (λ (x : Option Issue). Matches n w (offerIssue b i p x))
+          (sym (ap (λ (l : List Issue). getElem? l p) (m .log) ∙ none-map encodeIssue (w .log) p e)) m
       go hi (some f) e =
-          subst (λ (x : Option Issue). Matches n (messages.offerAt w i p (some f)) (offerIssue b i p x)) (sym (ap (λ (l : List Issue). getElem? l p) (m .log) ∙ at-map encodeIssue (w .log) p f e))
+          subst (λ (x : Option Issue). Matches n (messages.offerAt w i p (some f)) (offerIssue b i p x))
+          (sym (ap (λ (l : List Issue). getElem? l p) (m .log) ∙ at-map encodeIssue (w .log) p f e))
           (offer-matches n cap w b g few m i hi p f e)
 
   deliver-step : (i : ℕ) (out body : List ℕ) → Matches n (messages.step n w (forget (delivers i out body))) (step n b (delivers i out body))
   unfolding messages.step step
   deliver-step i out body =
       cond-elim (λ (x : messages.Step). Matches n (messages.step n w x) new) (lentLess out body) (messages.sends i i []) (messages.delivers i)
-      (λ s. both n (ltb i n) (messages.afterStep w i (messages.sends i i []) (send (w .nodes i) i [])) w after b (λ t. deliver-matches-short n cap w b g few m i (ltb→lt i n t) out body s) m)
+      (λ s. both n (ltb i n) (messages.afterStep w i (messages.sends i i []) (send (w .nodes i) i [])) w after b
+      (λ t. deliver-matches-short n cap w b g few m i (ltb→lt i n t) out body s) m)
       (λ s. let r = or-not (ltb (length out) outSize) (ltb (length body) maxBody) s in
       both n (ltb i n) (messages.afterStep w i (messages.delivers i) (deliver (w .nodes i))) w after b
       (λ t. deliver-matches n cap w b g few m i (ltb→lt i n t) out body (nltb→le (length out) outSize (r .0)) (nltb→le (length body) maxBody (r .1))) m)
@@ -79,17 +86,20 @@ module _ (n cap : ℕ) (w : messages.World) (b : World) (g : Good n (λ i. cap) 
       new = cond (ltb i n) (deliverAt b i (delivers i out body) (deliverCall (b .records i) (b .queues i) out body)) b
 
 -- a list of steps keeps it
-pub run-matches : (n cap : ℕ) (l : List Step) → BodiesOfBytes l → (w : messages.World) (b : World) → Good n (λ i. cap) w → length (w .history) + length l < 1000000000 → Matches n w b
+pub run-matches : (n cap : ℕ) (l : List Step) → BodiesOfBytes l → (w : messages.World) (b : World) → Good n (λ i. cap) w
+    → length (w .history) + length l < 1000000000 → Matches n w b
     → Matches n (messages.run n w (map forget l)) (run n b l)
 run-matches n cap [] bytes w b g few m = m
 run-matches n cap (sends i to body out ∷ l) bytes w b g few m =
-    run-matches n cap l (bytes .1) (messages.step n w (forget (sends i to body out))) (step n b (sends i to body out)) (step-good n (λ i. cap) w (forget (sends i to body out)) g)
+    run-matches n cap l (bytes .1) (messages.step n w (forget (sends i to body out))) (step n b (sends i to body out))
+    (step-good n (λ i. cap) w (forget (sends i to body out)) g)
     (omega (arith, run-length n w (forget (sends i to body out) ∷ []))) (send-step n cap w b g (omega arith) m i to body out (bytes .0))
 run-matches n cap (offers i p ∷ l) bytes w b g few m =
     run-matches n cap l bytes (messages.step n w (messages.offers i p)) (step n b (offers i p)) (step-good n (λ i. cap) w (messages.offers i p) g)
     (omega (arith, run-length n w (messages.offers i p ∷ []))) (offer-step n cap w b g (omega arith) m i p)
 run-matches n cap (delivers i out body ∷ l) bytes w b g few m =
-    run-matches n cap l bytes (messages.step n w (forget (delivers i out body))) (step n b (delivers i out body)) (step-good n (λ i. cap) w (forget (delivers i out body)) g)
+    run-matches n cap l bytes (messages.step n w (forget (delivers i out body))) (step n b (delivers i out body))
+    (step-good n (λ i. cap) w (forget (delivers i out body)) g)
     (omega (arith, run-length n w (forget (delivers i out body) ∷ []))) (deliver-step n cap w b g (omega arith) m i out body)
 
 -- set-up's records and queues of zeros are those of fresh nodes
@@ -104,7 +114,8 @@ empty-queue = refl
 pub start-matches : (n cap : ℕ) → InRange n cap → Matches n (messages.start n (λ i. cap)) (start n cap)
 unfolding setUp
 start-matches n cap r = record {
-  records = λ k h. ap (λ (x : SetUp). x .node) (cond-yes (inRange k n cap) (record { answer = Ready; node = freshRecord k n cap }) (record { answer = Refused 1; node = freshRecord 0 0 0 }) (range-T k n cap (in-range k n cap h r))) ∙ fresh-record k n cap;
+  records = λ k h. ap (λ (x : SetUp). x .node) (cond-yes (inRange k n cap) (record { answer = Ready; node = freshRecord k n cap })
+      (record { answer = Refused 1; node = freshRecord 0 0 0 }) (range-T k n cap (in-range k n cap h r))) ∙ fresh-record k n cap;
   queues = λ k h. empty-queue;
   log = refl;
   history = empty;

@@ -64,7 +64,8 @@ module _ (n cap : ℕ) (w : messages.World) (g : Good n (λ i. cap) w) (few : le
 
   -- a send is refused, or it is not, whatever is held
   data Case (to : ℕ) (body : List ℕ) : Type 0 where
-    refuses : (k : ℕ) → T (not (eqb k 0)) → Expected (sent (answer.Refused k)) → ((l : List Message) → send (with-held l) to body ≡ protocol.refuse k (with-held l)) → Case to body
+    refuses : (k : ℕ) → T (not (eqb k 0)) → Expected (sent (answer.Refused k))
+        → ((l : List Message) → send (with-held l) to body ≡ protocol.refuse k (with-held l)) → Case to body
     accepts : length body ≤ maxBody → ((l : List Message) → send (with-held l) to body ≡ sending (with-held l) to body) → Case to body
 
   case : (to : ℕ) (body : List ℕ) → Case to body
@@ -78,12 +79,16 @@ module _ (n cap : ℕ) (w : messages.World) (g : Good n (λ i. cap) w) (few : le
       rest l = cond (eqb to i || not (ltb to n)) (protocol.refuse 6 (with-held l)) (last l)
 
       go : T (eqb to i || not (ltb to n)) ⊎ T (not (eqb to i || not (ltb to n))) → T (longBody body) ⊎ T (not (longBody body)) → Case to body
-      go (inl a) b = refuses 6 tt (inr (inr (inl refl))) (λ l. cond-no (atLimit (with-held l)) (protocol.refuse 5 (with-held l)) (rest l) (free l) ∙ cond-yes (eqb to i || not (ltb to n)) (protocol.refuse 6 (with-held l)) (last l) a)
+      go (inl a) b =
+          refuses 6 tt (inr (inr (inl refl))) (λ l. cond-no (atLimit (with-held l)) (protocol.refuse 5 (with-held l)) (rest l) (free l)
+          ∙ cond-yes (eqb to i || not (ltb to n)) (protocol.refuse 6 (with-held l)) (last l) a)
       go (inr a) (inl b) =
-          refuses 7 tt (inr (inr (inr (inl refl)))) (λ l. cond-no (atLimit (with-held l)) (protocol.refuse 5 (with-held l)) (rest l) (free l) ∙ cond-no (eqb to i || not (ltb to n)) (protocol.refuse 6 (with-held l)) (last l) a
+          refuses 7 tt (inr (inr (inr (inl refl)))) (λ l. cond-no (atLimit (with-held l)) (protocol.refuse 5 (with-held l)) (rest l) (free l)
+          ∙ cond-no (eqb to i || not (ltb to n)) (protocol.refuse 6 (with-held l)) (last l) a
           ∙ cond-yes (longBody body) (protocol.refuse 7 (with-held l)) (sending (with-held l) to body) b)
       go (inr a) (inr b) =
-          accepts (nltb→le maxBody (length body) b) (λ l. cond-no (atLimit (with-held l)) (protocol.refuse 5 (with-held l)) (rest l) (free l) ∙ cond-no (eqb to i || not (ltb to n)) (protocol.refuse 6 (with-held l)) (last l) a
+          accepts (nltb→le maxBody (length body) b) (λ l. cond-no (atLimit (with-held l)) (protocol.refuse 5 (with-held l)) (rest l) (free l)
+          ∙ cond-no (eqb to i || not (ltb to n)) (protocol.refuse 6 (with-held l)) (last l) a
           ∙ cond-no (longBody body) (protocol.refuse 7 (with-held l)) (sending (with-held l) to body) b)
 
   -- the user frame fits
@@ -106,10 +111,12 @@ module _ (n cap : ℕ) (w : messages.World) (g : Good n (λ i. cap) w) (few : le
   says-no : (k : ℕ) → T (not (eqb k 0)) → Expected (sent (answer.Refused k)) → SaysNo (sent (answer.Refused k))
   says-no k t x = record { refuses = is-false (eqb k 0) t; nothing = refl; holds = refl; gives = refl; counts = refl; expected = x }
 
-  settled : (to : ℕ) (body out : List ℕ) → AllBytes body → outSize ≤ length out → Case to body → Left (send d to body) (settle out (send (with-held []) to body))
+  settled : (to : ℕ) (body out : List ℕ) → AllBytes body → outSize ≤ length out → Case to body
+      → Left (send d to body) (settle out (send (with-held []) to body))
   settled to body out bytes h (refuses k t x e) =
       subst (λ (o : protocol.Outcome). Left o (settle out (send (with-held []) to body))) (sym (e (w .nodes i .held)))
-      (subst (λ (o : protocol.Outcome). Left (protocol.refuse k d) (settle out o)) (sym (e [])) (refused-agrees d k (sent (answer.Refused k)) out (says-no k t x)))
+      (subst (λ (o : protocol.Outcome). Left (protocol.refuse k d) (settle out o)) (sym (e []))
+      (refused-agrees d k (sent (answer.Refused k)) out (says-no k t x)))
   settled to body out bytes h (accepts short e) =
       subst (λ (o : protocol.Outcome). Left o (settle out (send (with-held []) to body))) (sym (e (w .nodes i .held)))
       (subst (λ (o : protocol.Outcome). Left (sending d to body) (settle out o)) (sym (e []))
@@ -117,7 +124,10 @@ module _ (n cap : ℕ) (w : messages.World) (g : Good n (λ i. cap) w) (few : le
         node = refl;
         queue = refl;
         answer = record { acceptance = refl; names = refl; taken = refl; given = refl; expected = inl refl };
-        frames = issued-frames out issues (omega (arith, send-room (sentMessage d to body) (user-fits to body short) extras (trim-bytes 12 i n cap (clear i to (w .nodes i .matrix)))));
+        frames = issued-frames out issues (omega (
+          arith,
+          send-room (sentMessage d to body) (user-fits to body short) extras (trim-bytes 12 i n cap (clear i to (w .nodes i .matrix))),
+        ));
         bodies = all-bytes;
       }))
     where
@@ -136,7 +146,8 @@ module _ (n cap : ℕ) (w : messages.World) (g : Good n (λ i. cap) w) (few : le
   unfolding sendCall
   send-agrees to body out bytes h =
       subst (Left (send d to body))
-      (sym (cond-no (brokenRecord r) (refuseSend 2 r out) (cond (ltb (length out) outSize) (refuseSend 3 r out) (settle out (send (nodeOf r []) to body))) (record-kept n cap w g few i hi)
+      (sym (cond-no (brokenRecord r) (refuseSend 2 r out)
+      (cond (ltb (length out) outSize) (refuseSend 3 r out) (settle out (send (nodeOf r []) to body))) (record-kept n cap w g few i hi)
       ∙ cond-no (ltb (length out) outSize) (refuseSend 3 r out) (settle out (send (nodeOf r []) to body)) (le→nltb (length out) outSize h)
       ∙ ap (λ (e : MessageNode). settle out (send e to body)) (node-back n cap w g few i hi [])))
       (settled to body out bytes h (case to body))
@@ -145,5 +156,6 @@ module _ (n cap : ℕ) (w : messages.World) (g : Good n (λ i. cap) w) (few : le
   pub send-short : (to : ℕ) (body out : List ℕ) → length out < outSize → sendCall r to body out ≡ refuseSend 3 r out
   unfolding sendCall
   send-short to body out h =
-      cond-no (brokenRecord r) (refuseSend 2 r out) (cond (ltb (length out) outSize) (refuseSend 3 r out) (settle out (send (nodeOf r []) to body))) (record-kept n cap w g few i hi)
+      cond-no (brokenRecord r) (refuseSend 2 r out)
+      (cond (ltb (length out) outSize) (refuseSend 3 r out) (settle out (send (nodeOf r []) to body))) (record-kept n cap w g few i hi)
       ∙ cond-yes (ltb (length out) outSize) (refuseSend 3 r out) (settle out (send (nodeOf r []) to body)) (lt→ltb (length out) outSize h)

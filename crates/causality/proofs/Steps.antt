@@ -70,7 +70,8 @@ offer-offer i p = record {
 }
 
 -- a step at node i
-module _ (n cap : ℕ) (w : messages.World) (b : World) (g : Good n (λ i. cap) w) (few : length (w .history) < 1000000000) (m : Matches n w b) (i : ℕ) (hi : i < n) where
+module _ (n cap : ℕ) (w : messages.World) (b : World) (g : Good n (λ i. cap) w) (few : length (w .history) < 1000000000)
+    (m : Matches n w b) (i : ℕ) (hi : i < n) where
   -- the node
   abbrev d : MessageNode
   d = nodeAt n (λ k. cap) w i
@@ -85,15 +86,18 @@ module _ (n cap : ℕ) (w : messages.World) (b : World) (g : Good n (λ i. cap) 
   same-queue = m .queues i hi
 
   -- a step on messages and a call that agree
-  matched : (s : messages.Step) (t : Step) → SameStep s t → (f : MessageNode → protocol.Outcome) (r : Record) (q : List ℕ) (a : Answer) (out : List ℕ) → Agrees (f d) r q a out
+  matched : (s : messages.Step) (t : Step) → SameStep s t
+      → (f : MessageNode → protocol.Outcome) (r : Record) (q : List ℕ) (a : Answer) (out : List ℕ) → Agrees (f d) r q a out
       → Matches n (messages.afterStep w i s (f (w .nodes i))) (afterCall b i t r q a out)
   matched s t same f r q a out h =
-      subst (λ (z : MessageNode). Matches n (messages.afterStep w i s (f z)) (afterCall b i t r q a out)) (sym same-node) (matches-after n w b m i s t same (f d) r q a out h)
+      subst (λ (z : MessageNode). Matches n (messages.afterStep w i s (f z)) (afterCall b i t r q a out)) (sym same-node)
+      (matches-after n w b m i s t same (f d) r q a out h)
 
   -- a refused call agrees with a send to itself
   own-agrees : (a : Answer) (out : List ℕ) → SaysNo a → Agrees (send d i []) (recordOf d) (laid (map encode (w .nodes i .held))) a out
   own-agrees a out s =
-      subst (λ (o : protocol.Outcome). Agrees o (recordOf d) (laid (map encode (w .nodes i .held))) a out) (sym (own-refused d (below-limit n (λ k. cap) w g few i))) (refused-agrees d 6 a out s)
+      subst (λ (o : protocol.Outcome). Agrees o (recordOf d) (laid (map encode (w .nodes i .held))) a out)
+      (sym (own-refused d (below-limit n (λ k. cap) w g few i))) (refused-agrees d 6 a out s)
 
   -- a send
   module _ (to : ℕ) (body out : List ℕ) where
@@ -111,30 +115,40 @@ module _ (n cap : ℕ) (w : messages.World) (b : World) (g : Good n (λ i. cap) 
     pub send-matches : AllBytes body → outSize ≤ length out → Sent (messages.sends i to body) (send (w .nodes i) to body)
     send-matches bytes h =
         let c : AfterSend = sendCall (b .records i) to body out in
-        matched (messages.sends i to body) (sends i to body out) (send-send i to i to body body out) (λ z. send z to body) (c .result .node) (b .queues i) (sent (c .result .answer)) (c .out)
+        matched (messages.sends i to body) (sends i to body out) (send-send i to i to body body out) (λ z. send z to body) (c .result .node)
+        (b .queues i) (sent (c .result .answer)) (c .out)
         (sent-with (send d to body) (send-agrees n cap w g few (m .bodies) i hi to body out bytes h))
 
     pub send-matches-short : length out < outSize → Sent (messages.sends i i []) (send (w .nodes i) i [])
     send-matches-short h =
         let c : AfterSend = sendCall (b .records i) to body out in
-        matched (messages.sends i i []) (sends i to body out) (send-send i i i to [] body out) (λ z. send z i []) (c .result .node) (b .queues i) (sent (c .result .answer)) (c .out)
+        matched (messages.sends i i []) (sends i to body out) (send-send i i i to [] body out) (λ z. send z i []) (c .result .node)
+        (b .queues i) (sent (c .result .answer)) (c .out)
         (sent-with (send d i [])
-        (subst (λ (x : AfterSend). Agrees (send d i []) (x .result .node) (laid (map encode (w .nodes i .held))) (sent (x .result .answer)) (x .out)) (sym (send-short n cap w g few (m .bodies) i hi to body out h))
-        (own-agrees (sent (sendAnswer.Refused 3)) out (record { refuses = refl; nothing = refl; holds = refl; gives = refl; counts = refl; expected = inr (inl refl) }))))
+        (subst (λ (x : AfterSend). Agrees (send d i []) (x .result .node) (laid (map encode (w .nodes i .held))) (sent (x .result .answer)) (x .out))
+        (sym (send-short n cap w g few (m .bodies) i hi to body out h))
+        (own-agrees (sent (sendAnswer.Refused 3)) out
+        (record { refuses = refl; nothing = refl; holds = refl; gives = refl; counts = refl; expected = inr (inl refl) }))))
 
   -- an offer of issue p
   module _ (p : ℕ) (f : messages.Issue) (at : messages.IssueAt w p f) where
     -- the call with any record and queue
     abbrev pub OfferedWith : Record → List ℕ → Type 0
-    OfferedWith r q = let c : AfterOffer = offerCall r (encode (f .message)) q in Agrees (offer d (f .message)) (c .result .node) (c .queue) (offered (c .result .answer)) []
+    OfferedWith r q =
+        let c : AfterOffer = offerCall r (encode (f .message)) q in
+        Agrees (offer d (f .message)) (c .result .node) (c .queue) (offered (c .result .answer)) []
 
     pub offered-here : OfferedWith (b .records i) (b .queues i)
-    offered-here = subst (λ (r : Record). OfferedWith r (b .queues i)) (sym same-record) (subst (λ (q : List ℕ). OfferedWith (recordOf d) q) (sym same-queue) (offer-agrees n cap w g few (m .bodies) i hi p f at))
+    offered-here =
+        subst (λ (r : Record). OfferedWith r (b .queues i)) (sym same-record)
+        (subst (λ (q : List ℕ). OfferedWith (recordOf d) q) (sym same-queue) (offer-agrees n cap w g few (m .bodies) i hi p f at))
 
-    pub offer-matches : Matches n (messages.afterStep w i (messages.offers i p) (offer (w .nodes i) (f .message))) (offerAt b i (offers i p) (offerCall (b .records i) (encode (f .message)) (b .queues i)))
+    pub offer-matches : Matches n (messages.afterStep w i (messages.offers i p) (offer (w .nodes i) (f .message)))
+        (offerAt b i (offers i p) (offerCall (b .records i) (encode (f .message)) (b .queues i)))
     offer-matches =
         let c : AfterOffer = offerCall (b .records i) (encode (f .message)) (b .queues i) in
-        matched (messages.offers i p) (offers i p) (offer-offer i p) (λ z. offer z (f .message)) (c .result .node) (c .queue) (offered (c .result .answer)) [] offered-here
+        matched (messages.offers i p) (offers i p) (offer-offer i p) (λ z. offer z (f .message)) (c .result .node) (c .queue)
+        (offered (c .result .answer)) [] offered-here
 
   -- a deliver
   module _ (out body : List ℕ) where
@@ -147,7 +161,8 @@ module _ (n cap : ℕ) (w : messages.World) (b : World) (g : Good n (λ i. cap) 
     GivenWith o r q = let c : AfterDeliver = deliverCall r q out body in Agrees o (c .result .node) (c .queue) (delivered (c .result .answer)) (c .out)
 
     given-with : (o : protocol.Outcome) → GivenWith o (recordOf d) (laid (map encode (w .nodes i .held))) → GivenWith o (b .records i) (b .queues i)
-    given-with o h = subst (λ (r : Record). GivenWith o r (b .queues i)) (sym same-record) (subst (λ (q : List ℕ). GivenWith o (recordOf d) q) (sym same-queue) h)
+    given-with o h =
+        subst (λ (r : Record). GivenWith o r (b .queues i)) (sym same-record) (subst (λ (q : List ℕ). GivenWith o (recordOf d) q) (sym same-queue) h)
 
     pub given-here : outSize ≤ length out → maxBody ≤ length body → GivenWith (deliver d) (b .records i) (b .queues i)
     given-here h k = given-with (deliver d) (deliver-agrees n cap w g few (m .bodies) i hi out body h k)
@@ -155,12 +170,16 @@ module _ (n cap : ℕ) (w : messages.World) (b : World) (g : Good n (λ i. cap) 
     pub deliver-matches : outSize ≤ length out → maxBody ≤ length body → Given (messages.delivers i) (deliver (w .nodes i))
     deliver-matches h k =
         let c : AfterDeliver = deliverCall (b .records i) (b .queues i) out body in
-        matched (messages.delivers i) (delivers i out body) (deliver-deliver i i out body) deliver (c .result .node) (c .queue) (delivered (c .result .answer)) (c .out) (given-here h k)
+        matched (messages.delivers i) (delivers i out body) (deliver-deliver i i out body) deliver (c .result .node) (c .queue)
+        (delivered (c .result .answer)) (c .out) (given-here h k)
 
     pub deliver-matches-short : T (lentLess out body) → Given (messages.sends i i []) (send (w .nodes i) i [])
     deliver-matches-short h =
         let c : AfterDeliver = deliverCall (b .records i) (b .queues i) out body in
-        matched (messages.sends i i []) (delivers i out body) (send-deliver i i i [] out body) (λ z. send z i []) (c .result .node) (c .queue) (delivered (c .result .answer)) (c .out)
+        matched (messages.sends i i []) (delivers i out body) (send-deliver i i i [] out body) (λ z. send z i []) (c .result .node) (c .queue)
+        (delivered (c .result .answer)) (c .out)
         (given-with (send d i [])
-        (subst (λ (x : AfterDeliver). Agrees (send d i []) (x .result .node) (x .queue) (delivered (x .result .answer)) (x .out)) (sym (deliver-short n cap w g few (m .bodies) i hi out body h))
-        (own-agrees (delivered (deliverAnswer.Refused 3)) out (record { refuses = refl; nothing = refl; holds = refl; gives = refl; counts = refl; expected = inr (inl refl) }))))
+        (subst (λ (x : AfterDeliver). Agrees (send d i []) (x .result .node) (x .queue) (delivered (x .result .answer)) (x .out))
+        (sym (deliver-short n cap w g few (m .bodies) i hi out body h))
+        (own-agrees (delivered (deliverAnswer.Refused 3)) out
+        (record { refuses = refl; nothing = refl; holds = refl; gives = refl; counts = refl; expected = inr (inl refl) }))))

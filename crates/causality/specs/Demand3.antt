@@ -190,9 +190,11 @@ pub record DeliveredAt (history : List Event) (t : ℕ) (s : List ℕ) : Type 0 
 
 -- step a happened before step b: both are accepted steps of one node, a earlier; or a sent the user frame that b delivers; or a chain of these
 pub data HappenedBefore (log : List Issue) (history : List Event) : ℕ → ℕ → Type 0 where
-  sameNode : (a b : ℕ) (e f : Event) → a < b → getElem? history a ≡ some e → getElem? history b ≡ some f → accepted (e .answer) ≡ true → accepted (f .answer) ≡ true → e .node ≡ f .node
+  sameNode : (a b : ℕ) (e f : Event) → a < b → getElem? history a ≡ some e → getElem? history b ≡ some f → accepted (e .answer) ≡ true
+      → accepted (f .answer) ≡ true → e .node ≡ f .node
       → HappenedBefore log history a b
-  message : (a b p : ℕ) (g : Issue) → getElem? log p ≡ some g → User (g .frame) → g .step ≡ a → DeliveredAt history b (g .frame) → HappenedBefore log history a b
+  message : (a b p : ℕ) (g : Issue) → getElem? log p ≡ some g → User (g .frame) → g .step ≡ a
+      → DeliveredAt history b (g .frame) → HappenedBefore log history a b
   chain : (a b c : ℕ) → HappenedBefore log history a b → HappenedBefore log history b c → HappenedBefore log history a c
 
 -- some step delivered the frame
@@ -279,16 +281,19 @@ pub record DeliversNew (w : World) (j : ℕ) : Type 0 where
 -- agrees: what is held by the history is what the record counts and the queue has
 pub record Demand3For (n cap : ℕ) (w : World) : Type 0 where
   pub causal : (p q u : ℕ) (g h : Issue) → IssueAt w p g → IssueAt w q h → User (g .frame) → User (h .frame) → destination (g .frame) ≡ destination (h .frame)
-      → HappenedBefore (w .log) (w .history) (g .step) (h .step) → DeliveredAt (w .history) u (h .frame) → (t : ℕ) × (t < u) × DeliveredAt (w .history) t (g .frame)
+      → HappenedBefore (w .log) (w .history) (g .step) (h .step) → DeliveredAt (w .history) u (h .frame)
+      → (t : ℕ) × (t < u) × DeliveredAt (w .history) t (g .frame)
   pub once : (p t u : ℕ) (g : Issue) → IssueAt w p g → DeliveredAt (w .history) t (g .frame) → DeliveredAt (w .history) u (g .frame) → t ≡ u
-  pub distinct : (p q : ℕ) (g h : Issue) → IssueAt w p g → IssueAt w q h → header (g .frame) .from ≡ header (h .frame) .from → destination (g .frame) ≡ destination (h .frame)
+  pub distinct : (p q : ℕ) (g h : Issue) → IssueAt w p g → IssueAt w q h → header (g .frame) .from ≡ header (h .frame) .from
+      → destination (g .frame) ≡ destination (h .frame)
       → number (decode (g .frame)) ≡ number (decode (h .frame)) → p ≡ q
   pub kept : (i : ℕ) → i < n → count (entry (w .records i .m)) ≤ cap
   pub carried : (p : ℕ) (g : Issue) → IssueAt w p g → CarriesFew cap (g .frame)
   pub exists : (p : ℕ) (g : Issue) → IssueAt w p g → ¬ Delivered w (g .frame) → (q : ℕ) × (h : Issue) × Earliest w q h
   pub accepts : (p : ℕ) (g : Issue) → Earliest w p g → ¬ Held w p (g .frame) → heldAt w (destination (g .frame)) < maxHeld
       → offerNumber (offerCall (w .records (destination (g .frame))) (g .frame) (w .queues (destination (g .frame))) .result .answer) ≡ 0
-  pub delivers : (p : ℕ) (g : Issue) → Earliest w p g → Held w p (g .frame) ⊎ (heldAt w (destination (g .frame)) ≡ maxHeld) → DeliversNew w (destination (g .frame))
+  pub delivers : (p : ℕ) (g : Issue) → Earliest w p g → Held w p (g .frame) ⊎ (heldAt w (destination (g .frame)) ≡ maxHeld)
+      → DeliversNew w (destination (g .frame))
   pub agrees : (j : ℕ) → j < n → HeldAgrees w j
 
 -- demand 3: for every n from 2 to 12, every cap from n to n * n, and every list of fewer than 1,000,000,000 steps

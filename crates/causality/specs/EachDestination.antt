@@ -21,7 +21,8 @@ pub record EarliestThere (w : World) (p : ℕ) (g : Issue) : Type 0 where
 pub record Progress (w : World) : Type 0 where
   pub accepts : (p : ℕ) (g : Issue) → EarliestThere w p g → ¬ Held w p (g .frame) → heldAt w (destination (g .frame)) < maxHeld
       → offerNumber (offerCall (w .records (destination (g .frame))) (g .frame) (w .queues (destination (g .frame))) .result .answer) ≡ 0
-  pub delivers : (p : ℕ) (g : Issue) → EarliestThere w p g → Held w p (g .frame) ⊎ (heldAt w (destination (g .frame)) ≡ maxHeld) → DeliversNew w (destination (g .frame))
+  pub delivers : (p : ℕ) (g : Issue) → EarliestThere w p g → Held w p (g .frame) ⊎ (heldAt w (destination (g .frame)) ≡ maxHeld)
+      → DeliversNew w (destination (g .frame))
 
 -- for the lists of demand 3
 abbrev pub EachDestination : Type 0

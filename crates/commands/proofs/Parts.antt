@@ -81,9 +81,11 @@ module _ (s : List ℕ) (a b : ℕ) (first : a ≡ 0 + before 32 (drop 0 s)) (mo
       rw (second-piece 32 s a b first more second h)
       (firstLine-longer (take a s) (take (b - (a + 1)) (drop (a + 1) s)) (split 32 (drop (b + 1) s)) (split-some 32 (drop (b + 1) s)))
 
-module _ (s : List ℕ) (a b e : ℕ) (first : a ≡ 0 + before 32 (drop 0 s)) (more : a < length s) (second : b ≡ a + 1 + before 32 (drop (a + 1) s)) (again : b < length s) (third : e ≡ b + 1 + before 32 (drop (b + 1) s)) where
+module _ (s : List ℕ) (a b e : ℕ) (first : a ≡ 0 + before 32 (drop 0 s)) (more : a < length s) (second : b ≡ a + 1 + before 32 (drop (a + 1) s))
+    (again : b < length s) (third : e ≡ b + 1 + before 32 (drop (b + 1) s)) where
   pub command-two : e ≡ length s
-      → commands.command s ≡ commands.withTwo (commands.letter (take a s)) (value 3 (take (b - (a + 1)) (drop (a + 1) s))) (value 3 (take (e - (b + 1)) (drop (b + 1) s)))
+      → commands.command s ≡ commands.withTwo (commands.letter (take a s)) (value 3 (take (b - (a + 1)) (drop (a + 1) s)))
+      (value 3 (take (e - (b + 1)) (drop (b + 1) s)))
   unfolding commands.command commands.ofPieces
   command-two h = rw (second-piece 32 s a b first more second again, split-last 32 s (b + 1) e third h (omega arith))
 
@@ -91,4 +93,5 @@ module _ (s : List ℕ) (a b e : ℕ) (first : a ≡ 0 + before 32 (drop 0 s)) (
   unfolding commands.command
   command-more h =
       rw (second-piece 32 s a b first more second again, split-found 32 s (b + 1) e third h)
-      (command-longer (take a s) (take (b - (a + 1)) (drop (a + 1) s)) (take (e - (b + 1)) (drop (b + 1) s)) (split 32 (drop (e + 1) s)) (split-some 32 (drop (e + 1) s)))
+      (command-longer (take a s) (take (b - (a + 1)) (drop (a + 1) s)) (take (e - (b + 1)) (drop (b + 1) s))
+      (split 32 (drop (e + 1) s)) (split-some 32 (drop (e + 1) s)))

@@ -1,4 +1,5 @@
--- The command of a line: its pieces parted by single spaces (32) are a letter and its fields of 1 to 3 digits. The letters are ASCII: A is 65, D is 68, S is 83.
+-- The command of a line: its pieces parted by single spaces (32) are a letter and its fields of 1 to 3 digits.
+-- The letters are ASCII: A is 65, D is 68, S is 83.
 use Prim.Native.Nat.{ℕ}
 use mathlib.Core.Bool.{cond}
 use mathlib.Core.List.{List, [], _∷_}

@@ -10,7 +10,8 @@ use lib.Dec.{eqb, leb, leb·zero, ltb, nltb→le}
 use lib.ListN.{length}
 use Rattle.frame.specs.Entries.{entriesFrom, entryAt}
 use Rattle.frame.specs.Header.{header}
-use Rattle.frame.specs.Refusals.{precedes, eachOk, entryOk, frameRefusal, rising, risingAfter, wrongAddress, wrongBody, wrongContent, wrongEntries, wrongKind, wrongTrailer}
+use Rattle.frame.specs.Refusals.{precedes, eachOk, entryOk, frameRefusal, rising, risingAfter, wrongAddress}
+use Rattle.frame.specs.Refusals.{wrongBody, wrongContent, wrongEntries, wrongKind, wrongTrailer}
 use Rattle.frame.specs.declared.entries.Entry.{Entry}
 use Rattle.frame.specs.declared.header.Header.{Header}
 use Rattle.wire.proofs.Tests.{no-three, not-not, of-false}
@@ -38,11 +39,20 @@ unfolding wrongAddress
 address-left n cap h a b c d = simp (eq-eqb (h .n) n a, eq-eqb (h .cap) cap b, lt-ltb (h .from) n c, lt-ltb (h .to) n d)
 
 -- 11, an entry
-pub entry-left : (n : ℕ) (h : Header) (a : Entry) → a .row < n → a .column < n → (a .row ≡ a .column → ⊥) → (a .column ≡ h .from → ⊥) → 1 ≤ a .value → a .value ≤ maxCount
+pub entry-left : (n : ℕ) (h : Header) (a : Entry) → a .row < n → a .column < n → (a .row ≡ a .column → ⊥)
+    → (a .column ≡ h .from → ⊥) → 1 ≤ a .value → a .value ≤ maxCount
     → h .kind ≡ 2 → entryOk n h a ≡ eqb (a .column) (h .to)
 unfolding entryOk
 entry-left n h a p q r s t u k =
-    simp (lt-ltb (a .row) n p, lt-ltb (a .column) n q, ne-eqb (a .row) (a .column) r, ne-eqb (a .column) (h .from) s, le-leb 1 (a .value) t, le-leb (a .value) maxCount u, eq-eqb (h .kind) 2 k)
+    simp (
+      lt-ltb (a .row) n p,
+      lt-ltb (a .column) n q,
+      ne-eqb (a .row) (a .column) r,
+      ne-eqb (a .column) (h .from) s,
+      le-leb 1 (a .value) t,
+      le-leb (a .value) maxCount u,
+      eq-eqb (h .kind) 2 k,
+    )
 
 -- the place of an entry, of which the rows are the high bytes and the columns the low ones: it rises as document 01 has it, by row then column
 abbrev pub placeOf : Entry → ℕ
@@ -65,8 +75,18 @@ precedes-place a b p q = go (decLt (a .row) (b .row)) (ℕ-discrete (a .row) (b 
     go : Dec (a .row < b .row) → Dec (a .row ≡ b .row) → Dec (a .column < b .column)
         → (ltb (a .row) (b .row) || eqb (a .row) (b .row) && ltb (a .column) (b .column)) ≡ leb (placeOf a + 1) (placeOf b)
     go (yes r) e c = rw (lt-ltb (a .row) (b .row) r) (sym (le-leb (placeOf a + 1) (placeOf b) (omega arith)))
-    go (no r) (yes e) (yes c) = rw (le-ltb (a .row) (b .row) (omega arith), eq-eqb (a .row) (b .row) e, lt-ltb (a .column) (b .column) c) (sym (le-leb (placeOf a + 1) (placeOf b) (omega arith)))
-    go (no r) (yes e) (no c) = rw (le-ltb (a .row) (b .row) (omega arith), eq-eqb (a .row) (b .row) e, le-ltb (a .column) (b .column) (omega arith)) (sym (lt-leb (placeOf a + 1) (placeOf b) (omega arith)))
+    go (no r) (yes e) (yes c) =
+        rw (
+          le-ltb (a .row) (b .row) (omega arith),
+          eq-eqb (a .row) (b .row) e,
+          lt-ltb (a .column) (b .column) c,
+        ) (sym (le-leb (placeOf a + 1) (placeOf b) (omega arith)))
+    go (no r) (yes e) (no c) =
+        rw (
+          le-ltb (a .row) (b .row) (omega arith),
+          eq-eqb (a .row) (b .row) e,
+          le-ltb (a .column) (b .column) (omega arith),
+        ) (sym (lt-leb (placeOf a + 1) (placeOf b) (omega arith)))
     go (no r) (no e) c = rw (le-ltb (a .row) (b .row) (omega arith), ne-eqb (a .row) (b .row) e) (sym (lt-leb (placeOf a + 1) (placeOf b) (omega arith)))
 
 -- Boolean algebra: a test moved to the front
@@ -89,7 +109,8 @@ unfolding wrongEntries eachOk rising okFrom Narrow
 entries-walk n h [] w = refl
 entries-walk n h (a ∷ l) w =
     let first : (entryOk n h a && leb 0 (placeOf a)) ≡ entryOk n h a = rw (leb·zero (placeOf a)) (and-true (entryOk n h a)) in
-    ap not (and-assoc (entryOk n h a) (eachOk n h l) (risingAfter a l) ∙ ap (λ (t : Bool). entryOk n h a && t) (after n h a l (w .0) (w .1)) ∙ ap (λ (t : Bool). t && okFrom n h (placeOf a + 1) l) (sym first))
+    ap not (and-assoc (entryOk n h a) (eachOk n h l) (risingAfter a l) ∙ ap (λ (t : Bool). entryOk n h a && t) (after n h a l (w .0) (w .1))
+    ∙ ap (λ (t : Bool). t && okFrom n h (placeOf a + 1) l) (sym first))
 
 -- one entry of the walk: it breaks a rule, comes too early, or is passed
 pub walk-wrong : (n : ℕ) (h : Header) (least : ℕ) (a : Entry) (l : List Entry) → entryOk n h a ≡ false → okFrom n h least (a ∷ l) ≡ false
@@ -100,7 +121,8 @@ pub walk-early : (n : ℕ) (h : Header) (least : ℕ) (a : Entry) (l : List Entr
 unfolding okFrom
 walk-early n h least a l e p = rw (e, lt-leb least (placeOf a) p)
 
-pub walk-passed : (n : ℕ) (h : Header) (least : ℕ) (a : Entry) (l : List Entry) → entryOk n h a ≡ true → least ≤ placeOf a → okFrom n h least (a ∷ l) ≡ okFrom n h (placeOf a + 1) l
+pub walk-passed : (n : ℕ) (h : Header) (least : ℕ) (a : Entry) (l : List Entry) → entryOk n h a ≡ true → least ≤ placeOf a
+    → okFrom n h least (a ∷ l) ≡ okFrom n h (placeOf a + 1) l
 unfolding okFrom
 walk-passed n h least a l e p = rw (e, le-leb least (placeOf a) p)
 
@@ -151,7 +173,8 @@ module _ (n cap : ℕ) (s : List ℕ) (h : Header) (e : h ≡ header s) (back : 
 pub trailer-passed : (s : List ℕ) → wrongTrailer s ≡ false → (12 ≤ length s) × (countBack s ≡ length s - 4)
 unfolding wrongTrailer
 trailer-passed s e =
-    let t = no-three (ltb (length s) 12) (ltb maxFrame (length s)) (not (hasTrailer s)) (of-false (ltb (length s) 12 || ltb maxFrame (length s) || not (hasTrailer s)) e) in
+    let t = no-three (ltb (length s) 12) (ltb maxFrame (length s)) (not (hasTrailer s))
+    (of-false (ltb (length s) 12 || ltb maxFrame (length s) || not (hasTrailer s)) e) in
     (nltb→le (length s) 12 (t .0), trailed s (not-not (hasTrailer s) (t .2)) .count)
 
 -- the refusal, check by check, in rising order

@@ -51,7 +51,12 @@ pub length-listed : (k : ℕ) (l : List ℕ) → length (listed k l) ≡ sum (le
 unfolding listed
 length-listed k [] = refl
 length-listed k (v ∷ l) =
-    length-append (placed k v) (listed (k + 1) l) ∙ omega (arith, length-placed k v, length-listed (k + 1) l, sum-first (length l) (λ i. nonZero (getD (v ∷ l) i 0)))
+    length-append (placed k v) (listed (k + 1) l) ∙ omega (
+      arith,
+      length-placed k v,
+      length-listed (k + 1) l,
+      sum-first (length l) (λ i. nonZero (getD (v ∷ l) i 0)),
+    )
 
 -- there are as many entries as the matrix has
 pub length-entriesOf : (m : Matrix) → length (entriesOf m) ≡ count m

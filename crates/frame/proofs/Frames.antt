@@ -29,7 +29,8 @@ pub length-frames : (m : Message) (l : List Message) → length (framesOf (m ∷
 length-frames m l = ap length (frames-cons m l) ∙ length-append (encode m) (framesOf l)
 
 -- the first frame is written, then the others behind it
-pub put-frames : (o : List ℕ) (at : ℕ) (m : Message) (l : List Message) → put o at (framesOf (m ∷ l)) ≡ put (put o at (encode m)) (at + length (encode m)) (framesOf l)
+pub put-frames : (o : List ℕ) (at : ℕ) (m : Message) (l : List Message)
+    → put o at (framesOf (m ∷ l)) ≡ put (put o at (encode m)) (at + length (encode m)) (framesOf l)
 put-frames o at m l = ap (put o at) (frames-cons m l) ∙ put-append o at (encode m) (framesOf l)
 
 -- the frame of an extra message has the entries of one column

@@ -28,12 +28,21 @@ unfolding front headerBytes
 front-length m = simp (length-append, length-entries, length-entriesOf) (omega arith)
 
 -- header, entries and body
-pub put-front : (o : List ℕ) (at : ℕ) (m : Message) (o₁ o₂ o₃ : List ℕ) (pos : ℕ) → o₁ ≡ put o at (headerBytes (headerOf m)) → o₂ ≡ put o₁ (at + 8) (entriesBytes (entriesOf (m .entries)))
+pub put-front : (o : List ℕ) (at : ℕ) (m : Message) (o₁ o₂ o₃ : List ℕ) (pos : ℕ) → o₁ ≡ put o at (headerBytes (headerOf m))
+    → o₂ ≡ put o₁ (at + 8) (entriesBytes (entriesOf (m .entries)))
     → pos ≡ at + 8 + 6 * length (entriesOf (m .entries)) → o₃ ≡ put o₂ pos (m .body) → o₃ ≡ put o at (front m)
 unfolding front
 put-front o at m o₁ o₂ o₃ pos p q e r =
     r
-    ∙ rw (q, p, e, ← length-entries (entriesOf (m .entries)), ← put-append (put o at (headerBytes (headerOf m))) (at + 8) (entriesBytes (entriesOf (m .entries))) (m .body), ← length-header (headerOf m), ← put-append o at (headerBytes (headerOf m)) (entriesBytes (entriesOf (m .entries)) ++ m .body))
+    ∙ rw (
+      q,
+      p,
+      e,
+      ← length-entries (entriesOf (m .entries)),
+      ← put-append (put o at (headerBytes (headerOf m))) (at + 8) (entriesBytes (entriesOf (m .entries))) (m .body),
+      ← length-header (headerOf m),
+      ← put-append o at (headerBytes (headerOf m)) (entriesBytes (entriesOf (m .entries)) ++ m .body),
+    )
 
 -- and the trailer behind them
 pub put-frame : (o : List ℕ) (at : ℕ) (m : Message) (o₃ o₄ : List ℕ) (end : ℕ) → o₃ ≡ put o at (front m) → end ≡ at + length (front m) → end + 4 ≤ length o

@@ -47,13 +47,16 @@ ordered-down k j (a ∷ l) h o = (record { column = o .0 .column; value = o .0 .
 -- the first entry of a list is looked up in its row and column, and no other
 pub look-hit : (a : Entry) (l : List Entry) (x y : ℕ) → a .row ≡ x → a .column ≡ y → matrixOf (a ∷ l) x y ≡ a .value
 unfolding matrixOf
-look-hit a l x y p q = cond-yes (eqb (a .row) x && eqb (a .column) y) (a .value) (matrixOf l x y) (T-and (eqb (a .row) x) (eqb (a .column) y) (eq→eqb (a .row) x p) (eq→eqb (a .column) y q))
+look-hit a l x y p q =
+    cond-yes (eqb (a .row) x && eqb (a .column) y) (a .value) (matrixOf l x y)
+    (T-and (eqb (a .row) x) (eqb (a .column) y) (eq→eqb (a .row) x p) (eq→eqb (a .column) y q))
 
 pub look-miss : (a : Entry) (l : List Entry) (x y : ℕ) → (a .row ≡ x → a .column ≡ y → ⊥) → matrixOf (a ∷ l) x y ≡ matrixOf l x y
 unfolding matrixOf
 look-miss a l x y h =
     cond-no (eqb (a .row) x && eqb (a .column) y) (a .value) (matrixOf l x y)
-    (not-T (eqb (a .row) x && eqb (a .column) y) (λ t. let p = and-T (eqb (a .row) x) (eqb (a .column) y) t in h (eqb→eq (a .row) x (p .0)) (eqb→eq (a .column) y (p .1))))
+    (not-T (eqb (a .row) x && eqb (a .column) y) (λ t. let p = and-T (eqb (a .row) x) (eqb (a .column) y) t in
+    h (eqb→eq (a .row) x (p .0)) (eqb→eq (a .column) y (p .1))))
 
 pub look-none : (x y : ℕ) → matrixOf [] x y ≡ 0
 unfolding matrixOf
@@ -70,7 +73,8 @@ look-wide k [] o x y h = look-none x y
 look-wide k (a ∷ l) o x y h = look-miss a l x y (λ p q. omega (arith, o .0 .column)) ∙ look-wide (place a + 1) l (o .1) x y h
 
 -- what is looked up is an entry of the list
-pub look-each : (P : Entry → Type 0) (l : List Entry) → Each P l → (x y : ℕ) → (matrixOf l x y ≡ 0 → ⊥) → P (record { row = x; column = y; value = matrixOf l x y })
+pub look-each : (P : Entry → Type 0) (l : List Entry) → Each P l → (x y : ℕ) → (matrixOf l x y ≡ 0 → ⊥)
+    → P (record { row = x; column = y; value = matrixOf l x y })
 look-each P [] e x y h = absurd (h (look-none x y))
 look-each P (a ∷ l) e x y h = go (look-each P l (e .1) x y) (ℕ-discrete (a .row) x) (ℕ-discrete (a .column) y)
   where
@@ -112,7 +116,8 @@ look-listed k (suc i) (v ∷ l) x y h p = go (look-listed (k + 1) i l x y h (ome
     go ih (yes e) = rw (placed-none k v e) ih
     go ih (no e) = rw (placed-one k v e) (look-miss (record { row = k / 12; column = k % 12; value = v }) (listed (k + 1) l) x y (λ a b. omega arith) ∙ ih)
 
-pub each-listed : (P : Entry → Type 0) (k : ℕ) (l : List ℕ) → ((i : ℕ) → (getD l i 0 ≡ 0 → ⊥) → P (record { row = (k + i) / 12; column = (k + i) % 12; value = getD l i 0 })) → Each P (listed k l)
+pub each-listed : (P : Entry → Type 0) (k : ℕ) (l : List ℕ)
+    → ((i : ℕ) → (getD l i 0 ≡ 0 → ⊥) → P (record { row = (k + i) / 12; column = (k + i) % 12; value = getD l i 0 })) → Each P (listed k l)
 unfolding listed
 each-listed P k [] h = tt
 each-listed P k (v ∷ l) h = go (each-listed P (k + 1) l (λ i n. let e : k + 1 + i ≡ k + suc i = omega arith in rw e (h (suc i) n))) (ℕ-discrete v 0)
@@ -127,9 +132,11 @@ unfolding entriesOf
 look-entries m z = fun-ext (λ x. fun-ext (λ y. go x y (decLt x 12) (decLt y 12)))
   where
     go : (x y : ℕ) → Dec (x < 12) → Dec (y < 12) → matrixOf (listed 0 (flat m)) x y ≡ m x y
-    go x y (yes a) (yes b) = look-listed 0 (12 * x + y) (flat m) x y b (omega arith) ∙ getD-flat m (12 * x + y) (omega arith) ∙ rw (place-row x y b, place-column x y b)
+    go x y (yes a) (yes b) =
+        look-listed 0 (12 * x + y) (flat m) x y b (omega arith) ∙ getD-flat m (12 * x + y) (omega arith) ∙ rw (place-row x y b, place-column x y b)
     go x y (no a) (yes b) =
-        look-listed 0 (12 * x + y) (flat m) x y b (omega arith) ∙ List·getD-eq-default (flat m) 0 {n = 12 * x + y} (rw length-flat (omega arith)) ∙ sym (z x y (λ p _. a p))
+        look-listed 0 (12 * x + y) (flat m) x y b (omega arith)
+        ∙ List·getD-eq-default (flat m) 0 {n = 12 * x + y} (rw length-flat (omega arith)) ∙ sym (z x y (λ p _. a p))
     go x y d (no b) = look-wide 0 (listed 0 (flat m)) (listed-ordered 0 (flat m)) x y (omega arith) ∙ sym (z x y (λ _ p. b p))
 
 pub entries-ordered : (m : Matrix) → Ordered 0 (entriesOf m)
@@ -152,11 +159,14 @@ unfolding listed
 listed-back zero k f [] o w h = refl
 listed-back zero k f (a ∷ l) o w h = absurd (omega (arith, o .0 .from, w .0))
 listed-back (suc r) k f [] o w h =
-    rw (placed-none k (f k) (h k (omega arith) (omega arith) ∙ look-none (k / 12) (k % 12))) (listed-back r (k + 1) f [] tt tt (λ i p q. h i (omega arith) (omega arith)))
+    rw (placed-none k (f k) (h k (omega arith) (omega arith) ∙ look-none (k / 12) (k % 12)))
+    (listed-back r (k + 1) f [] tt tt (λ i p q. h i (omega arith) (omega arith)))
 listed-back (suc r) k f (a ∷ l) o w h = go (listed-back r (k + 1) f (a ∷ l)) (listed-back r (k + 1) f l) (ℕ-discrete (place a) k)
   where
     Back : List Entry → Type 0
-    Back t = Ordered (k + 1) t → Each (λ b. place b < k + 1 + r) t → ((i : ℕ) → k + 1 ≤ i → i < k + 1 + r → f i ≡ matrixOf t (i / 12) (i % 12)) → listed (k + 1) (listFrom (k + 1) r f) ≡ t
+    Back t =
+        Ordered (k + 1) t → Each (λ b. place b < k + 1 + r) t → ((i : ℕ) → k + 1 ≤ i → i < k + 1 + r → f i ≡ matrixOf t (i / 12) (i % 12))
+        → listed (k + 1) (listFrom (k + 1) r f) ≡ t
 
     wide : (t : List Entry) → Each (λ b. place b < k + suc r) t → Each (λ b. place b < k + 1 + r) t
     wide t = each-map (λ b. place b < k + suc r) (λ b. place b < k + 1 + r) (λ b p. omega arith) t
@@ -167,10 +177,15 @@ listed-back (suc r) k f (a ∷ l) o w h = go (listed-back r (k + 1) f (a ∷ l))
         let column : k % 12 ≡ a .column = omega (arith, o .0 .column) in
         let value : f k ≡ a .value = h k (omega arith) (omega arith) ∙ look-hit a l (k / 12) (k % 12) (sym row) (sym column) in
         rw (placed-one k (f k) (λ z. o .0 .value (sym value ∙ z)), row, column, value)
-        (ap (λ (t : List Entry). a ∷ t) (next (rw e at (o .1)) (wide l (w .1)) (λ i p q. h i (omega arith) (omega arith) ∙ look-miss a l (i / 12) (i % 12) (λ b c. omega arith))))
+        (ap (λ (t : List Entry). a ∷ t)
+        (next (rw e at (o .1)) (wide l (w .1)) (λ i p q. h i (omega arith) (omega arith) ∙ look-miss a l (i / 12) (i % 12) (λ b c. omega arith))))
     go later next (no e) =
-        rw (placed-none k (f k) (h k (omega arith) (omega arith) ∙ look-miss a l (k / 12) (k % 12) (λ b c. e (omega arith)) ∙ look-before (place a + 1) l (o .1) (k / 12) (k % 12) (omega arith) (omega (arith, o .0 .from))))
-        (later (record { column = o .0 .column; value = o .0 .value; from = omega (arith, o .0 .from) }, o .1) (wide (a ∷ l) w) (λ i p q. h i (omega arith) (omega arith)))
+        rw (placed-none k (f k) (h k (omega arith) (omega arith) ∙ look-miss a l (k / 12) (k % 12) (λ b c. e (omega arith))
+        ∙ look-before (place a + 1) l (o .1) (k / 12) (k % 12) (omega arith) (omega (arith, o .0 .from))))
+        (later (
+          record { column = o .0 .column; value = o .0 .value; from = omega (arith, o .0 .from) },
+          o .1,
+        ) (wide (a ∷ l) w) (λ i p q. h i (omega arith) (omega arith)))
 
 -- entries at rising places inside the twelve rows are those of their matrix
 pub entries-back : (l : List Entry) → Ordered 0 l → Each (λ a. place a < 144) l → entriesOf (matrixOf l) ≡ l

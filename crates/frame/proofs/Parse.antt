@@ -24,7 +24,13 @@ entry-read : (s t : List ℕ) (k : ℕ) → drop (8 + 6 * k) s ≡ t
     → entryAt s k ≡ record { row = getD t 0 0; column = getD t 1 0; value = getD t 2 0 + 256 * getD t 3 0 + 65536 * getD t 4 0 + 16777216 * getD t 5 0 }
 unfolding entryAt u32At
 entry-read s t k e =
-    let value : u32At s (8 + 6 * k + 2) ≡ getD t 2 0 + 256 * getD t 3 0 + 65536 * getD t 4 0 + 16777216 * getD t 5 0 = omega (arith, byte 2 (8 + 6 * k + 2) refl, byte 3 (8 + 6 * k + 2 + 1) (omega arith), byte 4 (8 + 6 * k + 2 + 2) (omega arith), byte 5 (8 + 6 * k + 2 + 3) (omega arith)) in
+    let value : u32At s (8 + 6 * k + 2) ≡ getD t 2 0 + 256 * getD t 3 0 + 65536 * getD t 4 0 + 16777216 * getD t 5 0 = omega (
+      arith,
+      byte 2 (8 + 6 * k + 2) refl,
+      byte 3 (8 + 6 * k + 2 + 1) (omega arith),
+      byte 4 (8 + 6 * k + 2 + 2) (omega arith),
+      byte 5 (8 + 6 * k + 2 + 3) (omega arith),
+    ) in
     λ z. record { row = byte 0 (8 + 6 * k) (omega arith) z; column = byte 1 (8 + 6 * k + 1) refl z; value = value z }
   where
     byte : (i j : ℕ) → j ≡ 8 + 6 * k + i → getD s j 0 ≡ getD t i 0
@@ -36,17 +42,21 @@ entry-next s k =
     rw (e, drop-drop)
 
 -- entries that stand in a frame are read from it
-pub read-entries : (s r : List ℕ) (l : List Entry) (k : ℕ) → Each (λ a. a .value < 4294967296) l → drop (8 + 6 * k) s ≡ entriesBytes l ++ r → entriesFrom s k (length l) ≡ l
+pub read-entries : (s r : List ℕ) (l : List Entry) (k : ℕ) → Each (λ a. a .value < 4294967296) l
+    → drop (8 + 6 * k) s ≡ entriesBytes l ++ r → entriesFrom s k (length l) ≡ l
 unfolding entriesFrom entriesBytes entryBytes le32
 read-entries s r [] k v e = refl
 read-entries s r (a ∷ l) k v e =
-    let first : entryAt s k ≡ a = entry-read s (entryBytes a ++ entriesBytes l ++ r) k e ∙ ap (λ (x : ℕ). record { row = a .row; column = a .column; value = x }) (four-bytes (a .value) (v .0)) in
+    let first : entryAt s k ≡ a = entry-read s (entryBytes a ++ entriesBytes l ++ r) k e
+    ∙ ap (λ (x : ℕ). record { row = a .row; column = a .column; value = x }) (four-bytes (a .value) (v .0)) in
     ap₂ _∷_ first (read-entries s r l (k + 1) (v .1) (entry-next s k ∙ ap (drop 6) e))
 
 -- an entry that was read has the bytes that it was read from
 entry-again : (s : List ℕ) (k : ℕ) → AllBytes s → 8 + 6 * k + 6 ≤ length s → entryBytes (entryAt s k) ≡ take 6 (drop (8 + 6 * k) s)
 unfolding entryBytes entryAt u32At
-entry-again s k b h = rw (four-back (getD s (8 + 6 * k + 2) 0) (getD s (8 + 6 * k + 2 + 1) 0) (getD s (8 + 6 * k + 2 + 2) 0) (getD s (8 + 6 * k + 2 + 3) 0) (b (8 + 6 * k + 2)) (b (8 + 6 * k + 2 + 1)) (b (8 + 6 * k + 2 + 2)) (b (8 + 6 * k + 2 + 3))) (simp add-assoc (simp add-assoc at (list-run 6 (8 + 6 * k) s h)))
+entry-again s k b h =
+    rw (four-back (getD s (8 + 6 * k + 2) 0) (getD s (8 + 6 * k + 2 + 1) 0) (getD s (8 + 6 * k + 2 + 2) 0) (getD s (8 + 6 * k + 2 + 3) 0) (b (8 + 6 * k + 2))
+    (b (8 + 6 * k + 2 + 1)) (b (8 + 6 * k + 2 + 2)) (b (8 + 6 * k + 2 + 3))) (simp add-assoc (simp add-assoc at (list-run 6 (8 + 6 * k) s h)))
 
 -- entries that were read have the bytes that they were read from
 pub entries-again : (s : List ℕ) (r k : ℕ) → AllBytes s → 8 + 6 * k + 6 * r ≤ length s → entriesBytes (entriesFrom s k r) ≡ take (6 * r) (drop (8 + 6 * k) s)

@@ -12,7 +12,8 @@ use Rattle.frame.specs.Header.{header}
 use Rattle.frame.specs.Refusals.{eachOk, entryOk, frameRefusal, rising, wrongAddress, wrongBody, wrongContent, wrongEntries, wrongKind, wrongTrailer}
 use Rattle.frame.specs.declared.entries.Entry.{Entry}
 use Rattle.frame.specs.declared.header.Header.{Header}
-use Rattle.wire.proofs.Tests.{all-seven, and-T, eq→eqb, if-not, if-then, is-false, is-true, le→nltb, neqb→ne, ne→neqb, no-four, no-three, not-if, not-not, or-T, or-not, skipped, then-if}
+use Rattle.wire.proofs.Tests.{all-seven, and-T, eq→eqb, if-not, if-then, is-false, is-true, le→nltb, neqb→ne, ne→neqb}
+use Rattle.wire.proofs.Tests.{no-four, no-three, not-if, not-not, or-T, or-not, skipped, then-if}
 use Rattle.wire.specs.Limits.{maxBody, maxCount, maxFrame}
 use Rattle.wire.specs.Trailer.{countBack, hasTrailer}
 
@@ -29,7 +30,8 @@ pub record EntryKept (n : ℕ) (h : Header) (a : Entry) : Type 0 where
 pub entry-kept : (n : ℕ) (h : Header) (a : Entry) → T (entryOk n h a) → EntryKept n h a
 unfolding entryOk
 entry-kept n h a t =
-    let p = all-seven (ltb (a .row) n) (ltb (a .column) n) (not (eqb (a .row) (a .column))) (not (eqb (a .column) (h .from))) (leb 1 (a .value)) (leb (a .value) maxCount) (not (eqb (h .kind) 2) || eqb (a .column) (h .to)) t in
+    let p = all-seven (ltb (a .row) n) (ltb (a .column) n) (not (eqb (a .row) (a .column))) (not (eqb (a .column) (h .from))) (leb 1 (a .value))
+    (leb (a .value) maxCount) (not (eqb (h .kind) 2) || eqb (a .column) (h .to)) t in
     record {
       row = ltb→lt (a .row) n (p .0);
       column = ltb→lt (a .column) n (p .1);
@@ -96,7 +98,9 @@ module _ (n cap : ℕ) (s : List ℕ) where
         long = nltb→le (length s) 12 (t .0);
         most = nltb→le maxFrame (length s) (t .1);
         trailer = not-not (hasTrailer s) (t .2);
-        kind = ⊎-elim (λ u. inl (eqb→eq (h .kind) 1 u)) (λ u. inr (eqb→eq (h .kind) 2 u)) (or-T (eqb (h .kind) 1) (eqb (h .kind) 2) (not-not (eqb (h .kind) 1 || eqb (h .kind) 2) (k .0)));
+        kind =
+            ⊎-elim (λ u. inl (eqb→eq (h .kind) 1 u)) (λ u. inr (eqb→eq (h .kind) 2 u))
+            (or-T (eqb (h .kind) 1) (eqb (h .kind) 2) (not-not (eqb (h .kind) 1 || eqb (h .kind) 2) (k .0)));
         reserved = eqb→eq (h .reserved) 0 (not-not (eqb (h .reserved) 0) (k .1));
         sameN = eqb→eq (h .n) n (not-not (eqb (h .n) n) (b .0));
         sameCap = eqb→eq (h .cap) cap (not-not (eqb (h .cap) cap) (b .1));
@@ -126,9 +130,27 @@ module _ (n cap : ℕ) (s : List ℕ) where
       let apart = is-false (eqb (h .from) (h .to)) (ne→neqb (h .from) (h .to) (k .apart)) in
       let size = is-true (eqb (8 + 6 * h .e + h .b) (countBack s)) (eq→eqb (8 + 6 * h .e + h .b) (countBack s) (k .size)) in
       let short = is-false (ltb maxBody (h .b)) (le→nltb maxBody (h .b) (k .short)) in
-      let bare = is-false (eqb (h .kind) 2 && not (eqb (h .b) 0)) (not-if (eqb (h .kind) 2) (eqb (h .b) 0) (λ t. eq→eqb (h .b) 0 (k .bare (eqb→eq (h .kind) 2 t)))) in
+      let bare = is-false (eqb (h .kind) 2 && not (eqb (h .b) 0))
+      (not-if (eqb (h .kind) 2) (eqb (h .b) 0) (λ t. eq→eqb (h .b) 0 (k .bare (eqb→eq (h .kind) 2 t)))) in
       let few = is-false (ltb cap (h .e)) (le→nltb cap (h .e) (k .few)) in
-      rw (long, most, trailer, kind, reserved, same, cap′, from, to, apart, size, short, bare, few, is-true (eachOk n h l) (k .each), is-true (rising l) (k .rise))
+      rw (
+        long,
+        most,
+        trailer,
+        kind,
+        reserved,
+        same,
+        cap′,
+        from,
+        to,
+        apart,
+        size,
+        short,
+        bare,
+        few,
+        is-true (eachOk n h l) (k .each),
+        is-true (rising l) (k .rise),
+      )
     where
       either : (h .kind ≡ 1) ⊎ (h .kind ≡ 2) → T (eqb (h .kind) 1 || eqb (h .kind) 2)
       either (inl e) = rw e tt

@@ -49,7 +49,8 @@ module _ (n cap : ℕ) (s : List ℕ) (f : SoundFrame n cap s) where
 
   back : entriesOf (matrixOf l) ≡ l
   back =
-      entries-back l (rising-ordered l (each-map (EntryKept n h) (Stands 0) stands l rules) (k .rise)) (each-map (EntryKept n h) (λ a. place a < 144) inside l rules)
+      entries-back l (rising-ordered l (each-map (EntryKept n h) (Stands 0) stands l rules) (k .rise))
+      (each-map (EntryKept n h) (λ a. place a < 144) inside l rules)
     where
       stands : (a : Entry) → EntryKept n h a → Stands 0 a
       stands a q = record { column = omega (arith, q .column, f .range .atMost12); value = omega (arith, q .least); from = omega arith }
@@ -103,14 +104,32 @@ module _ (n cap : ℕ) (s : List ℕ) (f : SoundFrame n cap s) where
   unfolding headerOf decode
   header-again =
       let reserved : 0 ≡ h .reserved = sym (k .reserved) in
-      λ z. record { kind = kind-again (h .kind) (k .kind) z; from = h .from; to = h .to; e = entry-count z; b = body-length z; n = h .n; cap = h .cap; reserved = reserved z }
+      λ z. record {
+        kind = kind-again (h .kind) (k .kind) z;
+        from = h .from;
+        to = h .to;
+        e = entry-count z;
+        b = body-length z;
+        n = h .n;
+        cap = h .cap;
+        reserved = reserved z;
+      }
 
   front-again : front (decode s) ≡ take (length s - 4) s
   unfolding front decode
   front-again =
       let e : 8 ≤ length s = omega (arith, k .long) in
       let q : 8 + 6 * h .e ≤ length s = omega (arith, size) in
-      rw (header-again, header-back s e, back, entries-again s (h .e) 0 (f .bytes) q, ← size, take-add (8 + 6 * h .e) (h .b) s, take-add 8 (6 * h .e) s, append-assoc)
+      rw (
+        header-again,
+        header-back s e,
+        back,
+        entries-again s (h .e) 0 (f .bytes) q,
+        ← size,
+        take-add (8 + 6 * h .e) (h .b) s,
+        take-add 8 (6 * h .e) s,
+        append-assoc,
+      )
 
   pub encode-decode : encode (decode s) ≡ s
   unfolding encode

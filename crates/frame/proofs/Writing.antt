@@ -27,7 +27,8 @@ pub writing-start : (o₀ : List ℕ) (at : ℕ) (whole : List Entry) → Writin
 writing-start o₀ at whole = record { same = refl; place = refl; bytes = refl }
 
 -- the first of those that are left are written
-pub writing-part : (o₀ : List ℕ) (at : ℕ) (whole : List Entry) (o : List ℕ) (pos : ℕ) (left first later : List Entry) (o′ : List ℕ) (pos′ : ℕ) → Writing o₀ at whole o pos left
+pub writing-part : (o₀ : List ℕ) (at : ℕ) (whole : List Entry) (o : List ℕ) (pos : ℕ) (left first later : List Entry) (o′ : List ℕ) (pos′ : ℕ)
+    → Writing o₀ at whole o pos left
     → left ≡ first ++ later → o′ ≡ put o pos (entriesBytes first) → pos′ ≡ pos + 6 * length first → Writing o₀ at whole o′ pos′ later
 writing-part o₀ at whole o pos left first later o′ pos′ w e p q =
     record {
@@ -47,7 +48,8 @@ pub writing-end : (o₀ : List ℕ) (at : ℕ) (whole : List Entry) (o : List �
 writing-end o₀ at whole o pos left w e =
     (omega (arith, w .place, ap length e), sym (put-none o pos) ∙ ap (λ (l : List Entry). put o pos (entriesBytes l)) (sym e) ∙ w .bytes)
 
-pub writing-all : (o₀ : List ℕ) (at : ℕ) (whole : List Entry) (o : List ℕ) (pos : ℕ) (left : List Entry) → Writing o₀ at whole o pos left → at + 6 * length whole ≤ pos → left ≡ []
+pub writing-all : (o₀ : List ℕ) (at : ℕ) (whole : List Entry) (o : List ℕ) (pos : ℕ) (left : List Entry) → Writing o₀ at whole o pos left
+    → at + 6 * length whole ≤ pos → left ≡ []
 writing-all o₀ at whole o pos [] w h = refl
 writing-all o₀ at whole o pos (a ∷ left) w h = absurd (omega (arith, w .place))
 
@@ -86,7 +88,8 @@ pub rows-end : (m : List ℕ) (x : ℕ) → length m ≡ 144 → 12 ≤ x → li
 rows-end m x e h = ap (listed (12 * x)) (drop-of-length-le m {i = 12 * x} (omega arith)) ∙ listed-nil (12 * x)
 
 -- before the end of the whole a row is left
-pub writing-row : (o₀ : List ℕ) (at : ℕ) (whole : List Entry) (o : List ℕ) (pos : ℕ) (m : List ℕ) (x : ℕ) → Writing o₀ at whole o pos (listed (12 * x) (drop (12 * x) m)) → length m ≡ 144
+pub writing-row : (o₀ : List ℕ) (at : ℕ) (whole : List Entry) (o : List ℕ) (pos : ℕ) (m : List ℕ) (x : ℕ)
+    → Writing o₀ at whole o pos (listed (12 * x) (drop (12 * x) m)) → length m ≡ 144
     → pos < at + 6 * length whole → x < 12
 writing-row o₀ at whole o pos m x w e h = go (decLe 12 x)
   where
@@ -106,7 +109,8 @@ unfolding listed
 one-placed zero k j f a b z = absurd (omega arith)
 one-placed (suc r) k j f a b z = go (ℕ-discrete k j) (λ c. one-placed r (k + 1) j f c (omega arith) (λ i n p q. z i n (omega arith) (omega arith)))
   where
-    go : Dec (k ≡ j) → (k + 1 ≤ j → listed (k + 1) (listFrom (k + 1) r f) ≡ placed j (f j)) → placed k (f k) ++ listed (k + 1) (listFrom (k + 1) r f) ≡ placed j (f j)
+    go : Dec (k ≡ j) → (k + 1 ≤ j → listed (k + 1) (listFrom (k + 1) r f) ≡ placed j (f j))
+        → placed k (f k) ++ listed (k + 1) (listFrom (k + 1) r f) ≡ placed j (f j)
     go (yes e) ih = rw (none-placed r (k + 1) f (λ i p q. z i (omega arith) (omega arith) (omega arith)), append-nil, e)
     go (no n) ih = rw (placed-none k (f k) (z k n (omega arith) (omega arith))) (ih (omega arith))
 

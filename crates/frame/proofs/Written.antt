@@ -70,7 +70,12 @@ entries-encode m = append-assoc (entriesBytes (entriesOf (m .entries))) (m .body
 body-encode : (m : Message) → take (length (m .body)) (drop (8 + 6 * length (entriesOf (m .entries))) (encode m)) ≡ m .body
 body-encode m =
     let l = entriesOf (m .entries) in
-    rw (← drop-drop (6 * length l) 8 (encode m), entries-encode m, drop-at (entriesBytes l) (m .body ++ trailer (front m)) (6 * length l) (length-entries l), take-append-seam)
+    rw (
+      ← drop-drop (6 * length l) 8 (encode m),
+      entries-encode m,
+      drop-at (entriesBytes l) (m .body ++ trailer (front m)) (6 * length l) (length-entries l),
+      take-append-seam,
+    )
 
 -- a number that is not other than zero is zero (general law)
 zero-stable : (v : ℕ) → ((v ≡ 0 → ⊥) → ⊥) → v ≡ 0
@@ -81,7 +86,8 @@ zero-stable (suc v) h = absurd (h (λ e. omega arith))
 module _ (m : Message) (s : Sound m) where
   outside : (x y : ℕ) → (x < 12 → y < 12 → ⊥) → m .entries x y ≡ 0
   outside x y h =
-      zero-stable (m .entries x y) (λ e. let q = s .entries x y e in h (omega (arith, q .row, s .range .atMost12)) (omega (arith, q .column, s .range .atMost12)))
+      zero-stable (m .entries x y) (λ e. let q = s .entries x y e in
+      h (omega (arith, q .row, s .range .atMost12)) (omega (arith, q .column, s .range .atMost12)))
 
   pub few-121 : count (m .entries) ≤ 121
   few-121 =
@@ -97,7 +103,15 @@ module _ (m : Message) (s : Sound m) where
   unfolding headerOf
   entry-rules x y e =
       let q = s .entries x y e in
-      record { row = q .row; column = q .column; apart = q .apart; notFrom = q .notFrom; least = omega arith; most = q .value; extraTo = λ k. q .extraTo (kind-two (m .kind) k) }
+      record {
+        row = q .row;
+        column = q .column;
+        apart = q .apart;
+        notFrom = q .notFrom;
+        least = omega arith;
+        most = q .value;
+        extraTo = λ k. q .extraTo (kind-two (m .kind) k);
+      }
 
   rules : Each (EntryKept (m .n) (headerOf m)) (entriesOf (m .entries))
   rules = each-entries (EntryKept (m .n) (headerOf m)) (m .entries) entry-rules
@@ -119,15 +133,24 @@ module _ (m : Message) (s : Sound m) where
   encode-bytes : AllBytes (encode m)
   unfolding encode front headerBytes headerOf
   encode-bytes =
-      bytes-sealed (front m) (bytes-append (headerBytes (headerOf m)) (entriesBytes (entriesOf (m .entries)) ++ m .body) header-bytes (bytes-append (entriesBytes (entriesOf (m .entries))) (m .body) entry-bytes (s .bytes)))
+      bytes-sealed (front m) (bytes-append (headerBytes (headerOf m)) (entriesBytes (entriesOf (m .entries)) ++ m .body) header-bytes
+      (bytes-append (entriesBytes (entriesOf (m .entries))) (m .body) entry-bytes (s .bytes)))
     where
       entry-bytes : AllBytes (entriesBytes (entriesOf (m .entries)))
       entry-bytes =
           bytes-entries (entriesOf (m .entries))
-          (each-map (EntryKept (m .n) (headerOf m)) (λ a. (a .row < 12) × (a .column < 12)) (λ a k. (omega (arith, k .row, s .range .atMost12), omega (arith, k .column, s .range .atMost12))) (entriesOf (m .entries)) rules)
+          (each-map (EntryKept (m .n) (headerOf m)) (λ a. (a .row < 12) × (a .column < 12))
+          (λ a k. (omega (arith, k .row, s .range .atMost12), omega (arith, k .column, s .range .atMost12))) (entriesOf (m .entries)) rules)
 
       header-bytes : AllBytes (headerBytes (headerOf m))
-      header-bytes = small-bytes (headerBytes (headerOf m)) (omega (arith, cap-most (m .n) (m .cap) (s .range), few-121, length-entriesOf (m .entries), kind-small (m .kind)))
+      header-bytes =
+          small-bytes (headerBytes (headerOf m)) (omega (
+            arith,
+            cap-most (m .n) (m .cap) (s .range),
+            few-121,
+            length-entriesOf (m .entries),
+            kind-small (m .kind),
+          ))
 
   front-short : length (front m) < 65536
   front-short = omega (arith, front-length m, few-121, s .short)

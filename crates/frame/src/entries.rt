@@ -60,7 +60,8 @@ fn write_place(out: &mut [u8], at: usize, x: usize, y: usize, v: u32) -> usize
 // Writes the non-zero entries of row x, and gives the place after them.
 fn write_row(out: &mut [u8], at: usize, m: &[u32; 144], x: usize) -> usize
     requires { ⌜ (at + 6 * length (listed (12 * x) (take 12 (drop (12 * x) (now m)))) ≤ length (now out)) × (length (now m) ≡ 144) × (x < 12) ⌝ }
-    ensures { λ r. ⌜ (r ≡ at + 6 * length (listed (12 * x) (take 12 (drop (12 * x) (now (m .entry)))))) × (now (out .exit) ≡ put (now (out .entry)) at (entriesBytes (listed (12 * x) (take 12 (drop (12 * x) (now (m .entry))))))) ⌝ }
+    ensures { λ r. ⌜ (r ≡ at + 6 * length (listed (12 * x) (take 12 (drop (12 * x) (now (m .entry))))))
+        × (now (out .exit) ≡ put (now (out .entry)) at (entriesBytes (listed (12 * x) (take 12 (drop (12 * x) (now (m .entry))))))) ⌝ }
 {
     let mut pos = at;
     let mut y: usize = 0;
@@ -74,7 +75,8 @@ fn write_row(out: &mut [u8], at: usize, m: &[u32; 144], x: usize) -> usize
 /// Writes the e non-zero entries of a matrix, and gives the place after them; the rows behind the last of them are not looked at.
 pub fn write(out: &mut [u8], at: usize, m: &[u32; 144], e: usize) -> usize
     requires { ⌜ (at + 6 * e ≤ length (now out)) × (length (now m) ≡ 144) × (e ≡ length (entriesOf (entry (now m)))) ⌝ }
-    ensures { λ r. ⌜ (r ≡ at + 6 * length (entriesOf (entry (now (m .entry))))) × (now (out .exit) ≡ put (now (out .entry)) at (entriesBytes (entriesOf (entry (now (m .entry)))))) ⌝ }
+    ensures { λ r. ⌜ (r ≡ at + 6 * length (entriesOf (entry (now (m .entry)))))
+        × (now (out .exit) ≡ put (now (out .entry)) at (entriesBytes (entriesOf (entry (now (m .entry)))))) ⌝ }
 {
     let end = at + 6 * e;
     let mut pos = at;
@@ -89,7 +91,8 @@ pub fn write(out: &mut [u8], at: usize, m: &[u32; 144], e: usize) -> usize
 /// Writes the non-zero entries of column l, and gives the place after them.
 pub fn write_column(out: &mut [u8], at: usize, m: &[u32; 144], l: usize) -> usize
     requires { ⌜ (at + 6 * length (entriesOf (only l (entry (now m)))) ≤ length (now out)) × (length (now m) ≡ 144) × (l < 12) ⌝ }
-    ensures { λ r. ⌜ (r ≡ at + 6 * length (entriesOf (only l (entry (now (m .entry)))))) × (now (out .exit) ≡ put (now (out .entry)) at (entriesBytes (entriesOf (only l (entry (now (m .entry))))))) ⌝ }
+    ensures { λ r. ⌜ (r ≡ at + 6 * length (entriesOf (only l (entry (now (m .entry))))))
+        × (now (out .exit) ≡ put (now (out .entry)) at (entriesBytes (entriesOf (only l (entry (now (m .entry))))))) ⌝ }
 {
     let mut pos = at;
     let mut x: usize = 0;

@@ -20,7 +20,9 @@ pub struct Address {
 /// Writes the frame of a user message from `at` on, and gives the place after it.
 pub fn user(out: &mut [u8], at: usize, a: Address, m: &[u32; 144], body: &[u8]) -> usize
     requires { ⌜ (at + 12 + 6 * count (entry (now m)) + length (now body) ≤ length (now out)) × (length (now m) ≡ 144) × (length (now body) < 256) ⌝ }
-    ensures { λ r. ⌜ (r ≡ at + 12 + 6 * count (entry (now (m .entry))) + length (now (body .entry))) × (now (out .exit) ≡ put (now (out .entry)) at (encode (userMessage (a .from) (a .to) (a .n) (a .cap) (entry (now (m .entry))) (now (body .entry))))) ⌝ }
+    ensures { λ r. ⌜ (r ≡ at + 12 + 6 * count (entry (now (m .entry))) + length (now (body .entry)))
+        × (now (out .exit)
+        ≡ put (now (out .entry)) at (encode (userMessage (a .from) (a .to) (a .n) (a .cap) (entry (now (m .entry))) (now (body .entry))))) ⌝ }
 {
     let e = matrix::count(m);
     super::header::write(
@@ -45,7 +47,8 @@ pub fn user(out: &mut [u8], at: usize, a: Address, m: &[u32; 144], body: &[u8]) 
 /// Writes the frame of an extra message, which carries the column of its destination, from `at` on, and gives the place after it.
 pub fn extra(out: &mut [u8], at: usize, a: Address, m: &[u32; 144]) -> usize
     requires { ⌜ (at + 12 + 6 * columnCount (entry (now m)) (a .to) ≤ length (now out)) × (length (now m) ≡ 144) × (a .to < 12) ⌝ }
-    ensures { λ r. ⌜ (r ≡ at + 12 + 6 * columnCount (entry (now (m .entry))) (a .to)) × (now (out .exit) ≡ put (now (out .entry)) at (encode (extraMessage (a .from) (a .to) (a .n) (a .cap) (entry (now (m .entry)))))) ⌝ }
+    ensures { λ r. ⌜ (r ≡ at + 12 + 6 * columnCount (entry (now (m .entry))) (a .to))
+        × (now (out .exit) ≡ put (now (out .entry)) at (encode (extraMessage (a .from) (a .to) (a .n) (a .cap) (entry (now (m .entry)))))) ⌝ }
 {
     let l = a.to as usize;
     super::header::write(

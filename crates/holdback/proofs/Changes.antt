@@ -21,7 +21,8 @@ put-past a r s n h =
     ∙ rw (e, take-append-add a r n, drop-append-add a r (n + length s), append-assoc, put-eq r n s h)
 
 -- written past the first slot
-put-later : (a r s : List ℕ) (i : ℕ) → length a ≡ maxFrame → maxFrame * i + length s ≤ length r → put (a ++ r) (maxFrame * suc i) s ≡ a ++ put r (maxFrame * i) s
+put-later : (a r s : List ℕ) (i : ℕ) → length a ≡ maxFrame → maxFrame * i + length s ≤ length r
+    → put (a ++ r) (maxFrame * suc i) s ≡ a ++ put r (maxFrame * i) s
 put-later a r s i e h =
     let p : maxFrame * suc i ≡ length a + maxFrame * i = omega arith in
     rw p (put-past a r s (maxFrame * i) h)
@@ -40,14 +41,16 @@ room : (k i : ℕ) (l : List (List ℕ)) (s : List ℕ) → EachFits l → lengt
 room k i l s f h p = omega (arith, length-slots k l f)
 
 -- a frame laid behind the others
-pub slots-append : (k : ℕ) (l : List (List ℕ)) (s : List ℕ) → length l < k → EachFits l → length s ≤ maxFrame → put (slots k l) (maxFrame * length l) s ≡ slots k (l ++ (s ∷ []))
+pub slots-append : (k : ℕ) (l : List (List ℕ)) (s : List ℕ) → length l < k → EachFits l → length s ≤ maxFrame
+    → put (slots k l) (maxFrame * length l) s ≡ slots k (l ++ (s ∷ []))
 unfolding slots padded
 slots-append zero l s p f h = absurd (omega arith)
 slots-append (suc k) [] s p f h =
     put-first (zeros maxFrame) (slots k []) s (rw length-zeros h)
     ∙ rw (zeros-drop (length s) maxFrame h) (sym (append-assoc s (zeros (maxFrame - length s)) (slots k [])))
 slots-append (suc k) (t ∷ l) s p f h =
-    put-later (padded t) (slots k l) s (length l) (length-padded t (f .0)) (room k (length l) l s (f .1) h (omega arith)) ∙ ap (λ (r : List ℕ). padded t ++ r) (slots-append k l s (omega arith) (f .1) h)
+    put-later (padded t) (slots k l) s (length l) (length-padded t (f .0)) (room k (length l) l s (f .1) h (omega arith))
+    ∙ ap (λ (r : List ℕ). padded t ++ r) (slots-append k l s (omega arith) (f .1) h)
 
 -- slot i
 pub slots-at : (k i : ℕ) (l : List (List ℕ)) → i < length l → length l ≤ k → EachFits l → take maxFrame (drop (maxFrame * i) (slots k l)) ≡ padded (getD l i [])
@@ -60,23 +63,27 @@ slots-at (suc k) (suc i) (s ∷ l) p h f =
     rw (e, drop-append-add (padded s) (slots k l) (maxFrame * i)) (slots-at k i l (omega arith) (omega arith) (f .1))
 
 -- a slot written over with a frame in its slot
-pub slots-set : (k i : ℕ) (l : List (List ℕ)) (s : List ℕ) → i < length l → length l ≤ k → EachFits l → length s ≤ maxFrame → put (slots k l) (maxFrame * i) (padded s) ≡ slots k (set l i s)
+pub slots-set : (k i : ℕ) (l : List (List ℕ)) (s : List ℕ) → i < length l → length l ≤ k → EachFits l → length s ≤ maxFrame
+    → put (slots k l) (maxFrame * i) (padded s) ≡ slots k (set l i s)
 unfolding slots
 slots-set k i [] s p h f g = absurd (omega arith)
 slots-set zero i (t ∷ l) s p h f g = absurd (omega arith)
 slots-set (suc k) zero (t ∷ l) s p h f g = put-whole (padded t) (slots k l) (padded s) (length-padded s g ∙ sym (length-padded t (f .0)))
 slots-set (suc k) (suc i) (t ∷ l) s p h f g =
-    put-later (padded t) (slots k l) (padded s) i (length-padded t (f .0)) (room k i l (padded s) (f .1) (omega (arith, length-padded s g)) (omega arith)) ∙ ap (λ (r : List ℕ). padded t ++ r) (slots-set k i l s (omega arith) (omega arith) (f .1) g)
+    put-later (padded t) (slots k l) (padded s) i (length-padded t (f .0)) (room k i l (padded s) (f .1) (omega (arith, length-padded s g)) (omega arith))
+    ∙ ap (λ (r : List ℕ). padded t ++ r) (slots-set k i l s (omega arith) (omega arith) (f .1) g)
 
 -- the last of the filled slots cleared
-pub slots-clear : (k i : ℕ) (l : List (List ℕ)) → suc i ≡ length l → length l ≤ k → EachFits l → put (slots k l) (maxFrame * i) (zeros maxFrame) ≡ slots k (without i l)
+pub slots-clear : (k i : ℕ) (l : List (List ℕ)) → suc i ≡ length l → length l ≤ k → EachFits l
+    → put (slots k l) (maxFrame * i) (zeros maxFrame) ≡ slots k (without i l)
 unfolding slots without
 slots-clear k i [] p h f = absurd (omega arith)
 slots-clear zero i (t ∷ l) p h f = absurd (omega arith)
 slots-clear (suc k) zero (t ∷ []) p h f = put-whole (padded t) (slots k []) (zeros maxFrame) (length-zeros maxFrame ∙ sym (length-padded t (f .0)))
 slots-clear (suc k) zero (t ∷ u ∷ l) p h f = absurd (omega arith)
 slots-clear (suc k) (suc i) (t ∷ l) p h f =
-    put-later (padded t) (slots k l) (zeros maxFrame) i (length-padded t (f .0)) (room k i l (zeros maxFrame) (f .1) (omega (arith, length-zeros maxFrame)) (omega arith)) ∙ ap (λ (r : List ℕ). padded t ++ r) (slots-clear k i l (omega arith) (omega arith) (f .1))
+    put-later (padded t) (slots k l) (zeros maxFrame) i (length-padded t (f .0)) (room k i l (zeros maxFrame) (f .1) (omega (arith, length-zeros maxFrame))
+    (omega arith)) ∙ ap (λ (r : List ℕ). padded t ++ r) (slots-clear k i l (omega arith) (omega arith) (f .1))
 
 -- the frame behind place i moved down to it: what is to be removed now stands one further
 without-moved : (i : ℕ) (l : List (List ℕ)) → suc i < length l → without (suc i) (set l i (getD l (suc i) [])) ≡ without i l
@@ -128,7 +135,8 @@ module _ (l : List (List ℕ)) (k i : ℕ) (q q′ : List ℕ) (m : Moving l k i
       e ∙ rw (m .queue) (slots-clear maxHeld i (m .frames) (omega (arith, m .many)) (omega (arith, m .many)) (m .fit)) ∙ ap laid (m .left)
 
 -- a frame laid behind those that a queue holds
-pub held-behind : (k : ℕ) (q s : List ℕ) → k < maxHeld → length s ≤ maxFrame → q ≡ laid (heldFrames k q) → put q (maxFrame * k) s ≡ laid (heldFrames k q ++ (s ∷ []))
+pub held-behind : (k : ℕ) (q s : List ℕ) → k < maxHeld → length s ≤ maxFrame → q ≡ laid (heldFrames k q)
+    → put q (maxFrame * k) s ≡ laid (heldFrames k q ++ (s ∷ []))
 held-behind k q s h f e =
     ap (λ (o : List ℕ). put o (maxFrame * k) s) e
     ∙ ap (λ (i : ℕ). put (laid (heldFrames k q)) (maxFrame * i) s) (sym (length-held k q))

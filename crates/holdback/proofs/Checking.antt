@@ -89,10 +89,13 @@ split d (suc held) (suc k) q h e =
     let r : List ℕ = drop maxFrame q in
     let long : length slot ≡ maxFrame = length-take-le maxFrame q (omega arith) in
     let fits : length (frameIn slot) ≤ maxFrame = held-fit (suc held) q .0 in
-    let same : sameBytes q (padded (frameIn slot) ++ slots k (heldFrames held r)) ≡ (sameBytes slot (padded (frameIn slot)) && sameBytes r (slots k (heldFrames held r))) =
-    ap (λ (t : List ℕ). sameBytes t (padded (frameIn slot) ++ slots k (heldFrames held r))) (sym (take-append-drop maxFrame q)) ∙ same-parts slot (padded (frameIn slot)) r (slots k (heldFrames held r)) (long ∙ sym (length-padded (frameIn slot) fits)) in
+    let same : sameBytes q (padded (frameIn slot) ++ slots k (heldFrames held r))
+    ≡ (sameBytes slot (padded (frameIn slot)) && sameBytes r (slots k (heldFrames held r))) =
+    ap (λ (t : List ℕ). sameBytes t (padded (frameIn slot) ++ slots k (heldFrames held r))) (sym (take-append-drop maxFrame q))
+    ∙ same-parts slot (padded (frameIn slot)) r (slots k (heldFrames held r)) (long ∙ sym (length-padded (frameIn slot) fits)) in
     rw (same, ← later held q)
-    (join (sameBytes slot (padded (frameIn slot))) (sameBytes r (slots k (heldFrames held r))) (heldRefused d (frameIn slot)) (someRefused d (heldFrames held r)) (someWrong d held r) (not (allZero (drop (maxFrame * held) r)))
+    (join (sameBytes slot (padded (frameIn slot))) (sameBytes r (slots k (heldFrames held r))) (heldRefused d (frameIn slot))
+    (someRefused d (heldFrames held r)) (someWrong d held r) (not (allZero (drop (maxFrame * held) r)))
     (split d held k r (omega arith) (omega (arith, length-drop maxFrame q))))
 
 pub queue-split : (d : Node) (held : ℕ) (q : List ℕ) → held ≤ maxHeld → length q ≡ queueSize

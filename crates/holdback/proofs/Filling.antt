@@ -34,7 +34,8 @@ pub record Filling (d : Node) (held : ℕ) (q l : List ℕ) (i : ℕ) : Type 0 w
   pub right : someWrong d held q ≡ someWrong d (held - i) (drop (maxFrame * i) q)
   pub keys : take i l ≡ map keyOf (heldMessages i q)
 
-keys-more : (q l : List ℕ) (i k : ℕ) → i < length l → k ≡ keyOf (decode (frameAt q i)) → take i l ≡ map keyOf (heldMessages i q) → take (i + 1) (set l i k) ≡ map keyOf (heldMessages (i + 1) q)
+keys-more : (q l : List ℕ) (i k : ℕ) → i < length l → k ≡ keyOf (decode (frameAt q i)) → take i l ≡ map keyOf (heldMessages i q)
+    → take (i + 1) (set l i k) ≡ map keyOf (heldMessages (i + 1) q)
 keys-more q l i k h e t =
     rw (
       add-one,

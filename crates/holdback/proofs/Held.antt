@@ -27,7 +27,8 @@ use Rattle.wire.specs.Limits.{maxFrame, maxHeld}
 slot-next : (i : ℕ) (q : List ℕ) → drop maxFrame (drop (maxFrame * i) q) ≡ drop (maxFrame * (i + 1)) q
 slot-next i q = let e : maxFrame * i + maxFrame ≡ maxFrame * (i + 1) = omega arith in rw (drop-drop, e)
 
-pub held-rest : (k i : ℕ) (q : List ℕ) → i < k → heldFrames (k - i) (drop (maxFrame * i) q) ≡ frameAt q i ∷ heldFrames (k - (i + 1)) (drop (maxFrame * (i + 1)) q)
+pub held-rest : (k i : ℕ) (q : List ℕ) → i < k
+    → heldFrames (k - i) (drop (maxFrame * i) q) ≡ frameAt q i ∷ heldFrames (k - (i + 1)) (drop (maxFrame * (i + 1)) q)
 unfolding heldFrames
 held-rest k i q h = let e : k - i ≡ suc (k - (i + 1)) = omega arith in rw (e, slot-next i q)
 
@@ -84,7 +85,8 @@ pub queue-kept : (d : Node) (held : ℕ) (q : List ℕ) → wrongQueue d held q 
 unfolding wrongQueue
 queue-kept d held q e =
     let l : List (List ℕ) = heldFrames held q in
-    let p = no-three (not (sameBytes q (laid l))) (someRefused d l) (someAlike (heldMessages held q)) (of-false (not (sameBytes q (laid l)) || someRefused d l || someAlike (heldMessages held q)) e) in
+    let p = no-three (not (sameBytes q (laid l))) (someRefused d l) (someAlike (heldMessages held q))
+    (of-false (not (sameBytes q (laid l)) || someRefused d l || someAlike (heldMessages held q)) e) in
     record { queue = same-eq q (laid l) (not-not (sameBytes q (laid l)) (p .0)); refused = p .1; apart = p .2 }
 
 -- a frame that meets none of 8 to 14

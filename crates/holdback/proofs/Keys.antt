@@ -70,7 +70,8 @@ slot-part slot len e = rw e
 pub slot-rest : (slot : List ℕ) (len : ℕ) → len ≡ ownLength (header slot) → take (length slot - len) (drop len slot) ≡ drop (ownLength (header slot)) slot
 slot-rest slot len e = rw (← e) (take-all (length slot - len) (drop len slot) (omega (arith, length-drop len slot)))
 
-pub key-parts : (slot : List ℕ) (h : Header) (k : ℕ) → length slot ≡ maxFrame → h ≡ header slot → k ≡ number (decode (frameIn slot)) → 16 * k + h .from ≡ keyOf (decode (frameIn slot))
+pub key-parts : (slot : List ℕ) (h : Header) (k : ℕ) → length slot ≡ maxFrame → h ≡ header slot → k ≡ number (decode (frameIn slot))
+    → 16 * k + h .from ≡ keyOf (decode (frameIn slot))
 unfolding keyOf
 key-parts slot h k l e p = rw (p, decode-from (frameIn slot) h (e ∙ sym (header-frame slot l)))
 
@@ -91,7 +92,8 @@ pub key-told : (d : Node) (slot : List ℕ) → (slotKey d slot ≡ 0 → ⊥) �
 unfolding slotKey
 key-told d slot p = go (wrongSlot d slot) p
   where
-    go : (b : Bool) → (cond b 0 (keyOf (decode (frameIn slot))) ≡ 0 → ⊥) → (b ≡ false) × (cond b 0 (keyOf (decode (frameIn slot))) ≡ keyOf (decode (frameIn slot)))
+    go : (b : Bool) → (cond b 0 (keyOf (decode (frameIn slot))) ≡ 0 → ⊥)
+        → (b ≡ false) × (cond b 0 (keyOf (decode (frameIn slot))) ≡ keyOf (decode (frameIn slot)))
     go true p = absurd (p refl)
     go false p = (refl, refl)
 
@@ -105,9 +107,12 @@ key-same : (g m : Message) → g .from < 16 → m .from < 16 → eqb (keyOf g) (
 unfolding keyOf
 key-same g m p q = go (ℕ-discrete (g .from) (m .from)) (ℕ-discrete (number g) (number m))
   where
-    go : Dec (g .from ≡ m .from) → Dec (number g ≡ number m) → eqb (16 * number g + g .from) (16 * number m + m .from) ≡ (eqb (g .from) (m .from) && eqb (number g) (number m))
-    go (yes f) (yes n) = rw (eq-eqb (g .from) (m .from) f, eq-eqb (number g) (number m) n, eq-eqb (16 * number g + g .from) (16 * number m + m .from) (omega arith))
-    go (yes f) (no n) = rw (eq-eqb (g .from) (m .from) f, ne-eqb (number g) (number m) n, ne-eqb (16 * number g + g .from) (16 * number m + m .from) (λ e. n (omega arith)))
+    go : Dec (g .from ≡ m .from) → Dec (number g ≡ number m)
+        → eqb (16 * number g + g .from) (16 * number m + m .from) ≡ (eqb (g .from) (m .from) && eqb (number g) (number m))
+    go (yes f) (yes n) =
+        rw (eq-eqb (g .from) (m .from) f, eq-eqb (number g) (number m) n, eq-eqb (16 * number g + g .from) (16 * number m + m .from) (omega arith))
+    go (yes f) (no n) =
+        rw (eq-eqb (g .from) (m .from) f, ne-eqb (number g) (number m) n, ne-eqb (16 * number g + g .from) (16 * number m + m .from) (λ e. n (omega arith)))
     go (no f) n = rw (ne-eqb (g .from) (m .from) f, ne-eqb (16 * number g + g .from) (16 * number m + m .from) (λ e. f (omega arith)))
 
 among-alike : (m : Message) (l : List Message) → m .from < 16 → SmallFrom l → among (keyOf m) (map keyOf l) ≡ someSameOrigin l m

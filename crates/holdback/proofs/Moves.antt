@@ -31,7 +31,8 @@ pub length-source : (o : List ℕ) (at : ℕ) → at + maxFrame + maxFrame ≤ l
 length-source o at h = length-take-le maxFrame (drop (at + maxFrame) o) (omega (arith, length-drop (at + maxFrame) o))
 
 -- one byte more, while the slot behind is as it was
-module _ (o₀ o : List ℕ) (at j : ℕ) (h : j < maxFrame) (room : at + maxFrame + maxFrame ≤ length o₀) (behind : drop (at + maxFrame) o ≡ drop (at + maxFrame) o₀) where
+module _ (o₀ o : List ℕ) (at j : ℕ) (h : j < maxFrame) (room : at + maxFrame + maxFrame ≤ length o₀)
+    (behind : drop (at + maxFrame) o ≡ drop (at + maxFrame) o₀) where
   unread : getD o (at + maxFrame + j) 0 ≡ getD (source o₀ at) j 0
   unread =
       sym (getD-drop (at + maxFrame) o j 0) ∙ ap (λ (l : List ℕ). getD l j 0) behind ∙ sym (getD-take maxFrame (drop (at + maxFrame) o₀) j 0 h)

@@ -57,23 +57,27 @@ abbrev pub Apart : List Message → Type 0
 Apart l = (h k : ℕ) (a b : Message) → getElem? l h ≡ some a → getElem? l k ≡ some b → a .from ≡ b .from → number a ≡ number b → h ≡ k
 
 -- a message of a list with the from and number of m
-origin-at : (l : List Message) (m : Message) → T (someSameOrigin l m) → (h : ℕ) × (a : Message) × (getElem? l h ≡ some a) × (a .from ≡ m .from) × (number a ≡ number m)
+origin-at : (l : List Message) (m : Message) → T (someSameOrigin l m)
+    → (h : ℕ) × (a : Message) × (getElem? l h ≡ some a) × (a .from ≡ m .from) × (number a ≡ number m)
 origin-at [] m t = absurd t
 origin-at (a ∷ l) m t = go (or-T (sameOrigin a m) (someSameOrigin l m) t) (λ q. origin-at l m q)
   where
-    go : T (sameOrigin a m) ⊎ T (someSameOrigin l m) → (T (someSameOrigin l m) → (h : ℕ) × (b : Message) × (getElem? l h ≡ some b) × (b .from ≡ m .from) × (number b ≡ number m))
+    go : T (sameOrigin a m) ⊎ T (someSameOrigin l m)
+        → (T (someSameOrigin l m) → (h : ℕ) × (b : Message) × (getElem? l h ≡ some b) × (b .from ≡ m .from) × (number b ≡ number m))
         → (h : ℕ) × (b : Message) × (getElem? (a ∷ l) h ≡ some b) × (b .from ≡ m .from) × (number b ≡ number m)
     go (inl q) ih =
         let r = and-T (eqb (a .from) (m .from)) (eqb (number a) (number m)) q in
         (0, a, refl, eqb→eq (a .from) (m .from) (r .0), eqb→eq (number a) (number m) (r .1))
     go (inr q) ih = let r = ih q in (suc (r .0), r .1, r .2, r .3, r .4)
 
-pub origin-some : (l : List Message) (m : Message) (h : ℕ) (a : Message) → getElem? l h ≡ some a → a .from ≡ m .from → number a ≡ number m → T (someSameOrigin l m)
+pub origin-some : (l : List Message) (m : Message) (h : ℕ) (a : Message) → getElem? l h ≡ some a → a .from ≡ m .from
+    → number a ≡ number m → T (someSameOrigin l m)
 origin-some [] m h a e f k = absurd (at-none h a e)
 origin-some (b ∷ l) m zero a e f k =
     let z : a ≡ b = cc in
     either-T (sameOrigin b m) (someSameOrigin l m)
-    (inl (subst (λ (x : Message). T (sameOrigin x m)) z (T-and (eqb (a .from) (m .from)) (eqb (number a) (number m)) (eq→eqb (a .from) (m .from) f) (eq→eqb (number a) (number m) k))))
+    (inl (subst (λ (x : Message). T (sameOrigin x m)) z
+    (T-and (eqb (a .from) (m .from)) (eqb (number a) (number m)) (eq→eqb (a .from) (m .from) f) (eq→eqb (number a) (number m) k))))
 origin-some (b ∷ l) m (suc h) a e f k = either-T (sameOrigin b m) (someSameOrigin l m) (inr (origin-some l m h a e f k))
 
 -- of such messages it is not the case that two agree, and the other way round
@@ -91,10 +95,12 @@ alike-none [] t h k a b x y f n = absurd (at-none h a x)
 alike-none (m ∷ l) t zero zero a b x y f n = refl
 alike-none (m ∷ l) t zero (suc k) a b x y f n =
     let z : m ≡ a = cc in
-    absurd (T-not (someSameOrigin l m) (or-not (someSameOrigin l m) (someAlike l) t .0) (origin-some l m k b y (sym f ∙ ap (λ (g : Message). g .from) (sym z)) (sym n ∙ ap number (sym z))))
+    absurd (T-not (someSameOrigin l m) (or-not (someSameOrigin l m) (someAlike l) t .0)
+    (origin-some l m k b y (sym f ∙ ap (λ (g : Message). g .from) (sym z)) (sym n ∙ ap number (sym z))))
 alike-none (m ∷ l) t (suc h) zero a b x y f n =
     let z : m ≡ b = cc in
-    absurd (T-not (someSameOrigin l m) (or-not (someSameOrigin l m) (someAlike l) t .0) (origin-some l m h a x (f ∙ ap (λ (g : Message). g .from) (sym z)) (n ∙ ap number (sym z))))
+    absurd (T-not (someSameOrigin l m) (or-not (someSameOrigin l m) (someAlike l) t .0)
+    (origin-some l m h a x (f ∙ ap (λ (g : Message). g .from) (sym z)) (n ∙ ap number (sym z))))
 alike-none (m ∷ l) t (suc h) (suc k) a b x y f n = ap suc (alike-none l (or-not (someSameOrigin l m) (someAlike l) t .1) h k a b x y f n)
 
 -- a list of bytes is the same as itself
@@ -104,13 +110,16 @@ same-bytes [] = tt
 same-bytes (a ∷ s) = T-and (eqb a a) (sameBytes s s) (eqb-refl a) (same-bytes s)
 
 -- at most sixteen such frames, laid out, pass check 4
-pub queue-right : (d : Node) (l : List (List ℕ)) → length l ≤ maxHeld → EachFrame (FrameKept d) l → Apart (map decode l) → wrongQueue d (length l) (laid l) ≡ false
+pub queue-right : (d : Node) (l : List (List ℕ)) → length l ≤ maxHeld → EachFrame (FrameKept d) l → Apart (map decode l)
+    → wrongQueue d (length l) (laid l) ≡ false
 unfolding wrongQueue
 queue-right d l h f a =
     is-false (wrongQueue d (length l) (laid l))
-    (subst (λ (k : List (List ℕ)). T (not (not (sameBytes (laid l) (laid k)) || someRefused d k || someAlike (map decode k)))) (sym (held-slots maxHeld l h (framed-all d l f)))
+    (subst (λ (k : List (List ℕ)). T (not (not (sameBytes (laid l) (laid k)) || someRefused d k || someAlike (map decode k))))
+    (sym (held-slots maxHeld l h (framed-all d l f)))
     (not-or (not (sameBytes (laid l) (laid l)) || someRefused d l) (someAlike (map decode l))
-    (not-or (not (sameBytes (laid l) (laid l))) (someRefused d l) (T-not-not (sameBytes (laid l) (laid l)) (same-bytes (laid l))) (none-refused d l f)) (none-alike (map decode l) a)))
+    (not-or (not (sameBytes (laid l) (laid l))) (someRefused d l) (T-not-not (sameBytes (laid l) (laid l)) (same-bytes (laid l))) (none-refused d l f))
+    (none-alike (map decode l) a)))
 
 -- a frame that is left when the one at place j is taken out
 pub without-at : (j : ℕ) (l : List (List ℕ)) (h : ℕ) (s : List ℕ) → getElem? (without j l) h ≡ some s → getElem? l (skip j h) ≡ some s

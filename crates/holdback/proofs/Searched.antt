@@ -33,7 +33,8 @@ unfolding placeFrom
 place-from p i [] = refl
 place-from p i (g ∷ l) = go (p g) (place-from p (i + 1) l)
   where
-    go : (b : Bool) → placeFrom p (i + 1) l ≡ shifted (i + 1) (search p l) → cond b (i + 1) (placeFrom p (i + 1) l) ≡ shifted i (cond b (found 1 g l) (past g (search p l)))
+    go : (b : Bool) → placeFrom p (i + 1) l ≡ shifted (i + 1) (search p l)
+        → cond b (i + 1) (placeFrom p (i + 1) l) ≡ shifted i (cond b (found 1 g l) (past g (search p l)))
     go true ih = refl
     go false ih = ih ∙ sym (shifted-past i g (search p l))
 
@@ -78,7 +79,8 @@ unfolding without
 found-at p [] j e = absurd (omega arith)
 found-at p (s ∷ l) j e = go (p (decode s)) (search p (map decode l)) j (found-none p (map decode l)) (λ i h. found-at p l i h) e
   where
-    go : (b : Bool) (r : Search) (j : ℕ) → (placeOf r ≡ 0 → r ≡ absent) → ((i : ℕ) → placeOf r ≡ suc i → r ≡ found (suc i) (decode (getD l i [])) (map decode (without i l)))
+    go : (b : Bool) (r : Search) (j : ℕ) → (placeOf r ≡ 0 → r ≡ absent)
+        → ((i : ℕ) → placeOf r ≡ suc i → r ≡ found (suc i) (decode (getD l i [])) (map decode (without i l)))
         → placeOf (cond b (found 1 (decode s) (map decode l)) (past (decode s) r)) ≡ suc j
         → cond b (found 1 (decode s) (map decode l)) (past (decode s) r) ≡ found (suc j) (decode (getD (s ∷ l) j [])) (map decode (without j (s ∷ l)))
     go true r zero nil ih e = refl

@@ -100,7 +100,8 @@ held-slots k [] h f = refl
 held-slots zero (s ∷ l) h f = absurd (omega arith)
 held-slots (suc k) (s ∷ l) h f =
     let p : length (padded s) ≡ maxFrame = length-padded s (f .0 .fits) in
-    ap₂ _∷_ (ap frameIn (take-at (padded s) (slots k l) maxFrame p) ∙ frame-padded s (f .0)) (ap (heldFrames (length l)) (drop-at (padded s) (slots k l) maxFrame p) ∙ held-slots k l (omega arith) (f .1))
+    ap₂ _∷_ (ap frameIn (take-at (padded s) (slots k l) maxFrame p) ∙ frame-padded s (f .0))
+    (ap (heldFrames (length l)) (drop-at (padded s) (slots k l) maxFrame p) ∙ held-slots k l (omega arith) (f .1))
 
 -- the frames read from any bytes: as many as asked for, and each fits
 pub length-held : (k : ℕ) (q : List ℕ) → length (heldFrames k q) ≡ k

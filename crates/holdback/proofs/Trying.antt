@@ -23,7 +23,8 @@ use Rattle.protocol.specs.Offer.{deliverable}
 -- at slot i the search goes on: what it finds is what it finds from there on
 abbrev pub Trying : ℕ → List ℕ → ℕ → List ℕ → ℕ → Type 0
 Trying me deliv held q i =
-    (n cap : ℕ) (m : List ℕ) (l : List Message) → placeOf (search (deliverable (nodeWith me n cap m deliv l)) (heldMessages held q)) ≡ firstFrom (deliverable (nodeWith me n cap m deliv l)) held q i
+    (n cap : ℕ) (m : List ℕ) (l : List Message)
+    → placeOf (search (deliverable (nodeWith me n cap m deliv l)) (heldMessages held q)) ≡ firstFrom (deliverable (nodeWith me n cap m deliv l)) held q i
 
 -- what it found is place r
 abbrev pub Tried : ℕ → List ℕ → ℕ → List ℕ → ℕ → Type 0
@@ -48,4 +49,5 @@ module _ (me : ℕ) (deliv : List ℕ) (held : ℕ) (q : List ℕ) where
 
     pub try-hit : readyFrom me deliv (frameAt q i) 0 (h .e) ≡ true → Tried me deliv held q (i + 1)
     try-hit w n cap m l =
-        sym (t n cap m l ∙ first-hit (deliverable (nodeWith me n cap m deliv l)) held q i p (deliverable-walk (frameAt q i) h me deliv c e n cap m l ∙ rw sub-zero at w))
+        sym (t n cap m l
+        ∙ first-hit (deliverable (nodeWith me n cap m deliv l)) held q i p (deliverable-walk (frameAt q i) h me deliv c e n cap m l ∙ rw sub-zero at w))

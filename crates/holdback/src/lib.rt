@@ -79,7 +79,8 @@ pub fn frame_end(q: &[u8], i: usize) -> usize
 /// The place, counted from 1, of the first held frame that is deliverable at node me, and 0 where none is.
 pub fn search(q: &[u8], held: usize, me: u8, deliv: &[u32; 12]) -> usize
     requires { ⌜ CheckedQueue held (now q) ⌝ }
-    ensures { λ r. ⌜ ((n cap : ℕ) (m : List ℕ) (l : List Message) → r ≡ placeOf (search (deliverable (nodeWith me n cap m (now (deliv .entry)) l)) (heldMessages held (now (q .entry))))) ⌝ }
+    ensures { λ r. ⌜ ((n cap : ℕ) (m : List ℕ) (l : List Message)
+        → r ≡ placeOf (search (deliverable (nodeWith me n cap m (now (deliv .entry)) l)) (heldMessages held (now (q .entry))))) ⌝ }
 {
     let mut next: usize = 0;
     'slots: while next < held {

@@ -73,7 +73,8 @@ entry-in l x y h k = cond-yes (ltb x 12 && ltb y 12) (getD l (12 * x + y) 0) 0 (
 pub entry-out : (l : List ℕ) (x y : ℕ) → (x < 12 → y < 12 → ⊥) → entry l x y ≡ 0
 unfolding entry
 entry-out l x y h =
-    cond-no (ltb x 12 && ltb y 12) (getD l (12 * x + y) 0) 0 (not-T (ltb x 12 && ltb y 12) (λ t. let p = and-T (ltb x 12) (ltb y 12) t in h (ltb→lt x 12 (p .0)) (ltb→lt y 12 (p .1))))
+    cond-no (ltb x 12 && ltb y 12) (getD l (12 * x + y) 0) 0
+    (not-T (ltb x 12 && ltb y 12) (λ t. let p = and-T (ltb x 12) (ltb y 12) t in h (ltb→lt x 12 (p .0)) (ltb→lt y 12 (p .1))))
 
 pub entry-place : (l : List ℕ) (k : ℕ) → k < 144 → entry l (k / 12) (k % 12) ≡ getD l k 0
 entry-place l k h =
@@ -121,13 +122,22 @@ stored-else a b v m x y h =
 
 pub set-flat : (m : Matrix) (a b v : ℕ) → a < 12 → b < 12 → set (flat m) (12 * a + b) v ≡ flat (stored a b v m)
 set-flat m a b v h k =
-    ext-getD 0 (set (flat m) (12 * a + b) v) (flat (stored a b v m)) (simp (length-set, length-flat)) (λ i l. go i (rw (length-set, length-flat) at l) (ℕ-discrete i (12 * a + b)))
+    ext-getD 0 (set (flat m) (12 * a + b) v) (flat (stored a b v m)) (simp (length-set, length-flat))
+    (λ i l. go i (rw (length-set, length-flat) at l) (ℕ-discrete i (12 * a + b)))
   where
     go : (i : ℕ) → i < 144 → Dec (i ≡ 12 * a + b) → getD (set (flat m) (12 * a + b) v) i 0 ≡ getD (flat (stored a b v m)) i 0
     go i l (yes e) =
-        rw (e, getD-set-same (flat m) (12 * a + b) v 0 (rw length-flat (omega arith)), getD-flat (stored a b v m) (12 * a + b) (omega arith), place-row a b k, place-column a b k, stored-here)
+        rw (
+          e,
+          getD-set-same (flat m) (12 * a + b) v 0 (rw length-flat (omega arith)),
+          getD-flat (stored a b v m) (12 * a + b) (omega arith),
+          place-row a b k,
+          place-column a b k,
+          stored-here,
+        )
     go i l (no e) =
-        getD-set-other (flat m) (12 * a + b) i v 0 e ∙ getD-flat m i l ∙ sym (getD-flat (stored a b v m) i l ∙ stored-else a b v m (i / 12) (i % 12) (λ p q. e (omega arith)))
+        getD-set-other (flat m) (12 * a + b) i v 0 e ∙ getD-flat m i l
+        ∙ sym (getD-flat (stored a b v m) i l ∙ stored-else a b v m (i / 12) (i % 12) (λ p q. e (omega arith)))
 
 pub set-entry : (l : List ℕ) (a b v : ℕ) → length l ≡ 144 → a < 12 → b < 12 → set l (12 * a + b) v ≡ flat (stored a b v (entry l))
 set-entry l a b v e h k = ap (λ (z : List ℕ). set z (12 * a + b) v) (sym (flat-back l e)) ∙ set-flat (entry l) a b v h k
@@ -144,7 +154,8 @@ count-array l =
 pub count-ext : (f g : Matrix) → ((x y : ℕ) → x < 12 → y < 12 → f x y ≡ g x y) → count f ≡ count g
 unfolding count columnCount
 count-ext f g h =
-    sum-upto 12 (λ y. sum 12 (λ x. nonZero (f x y))) (λ y. sum 12 (λ x. nonZero (g x y))) (λ y l. sum-upto 12 (λ x. nonZero (f x y)) (λ x. nonZero (g x y)) (λ x k. ap nonZero (h x y k l)))
+    sum-upto 12 (λ y. sum 12 (λ x. nonZero (f x y))) (λ y. sum 12 (λ x. nonZero (g x y)))
+    (λ y l. sum-upto 12 (λ x. nonZero (f x y)) (λ x. nonZero (g x y)) (λ x k. ap nonZero (h x y k l)))
 
 pub count-flat : (m : Matrix) → sum 144 (λ k. nonZero (getD (flat m) k 0)) ≡ count m
 count-flat m = count-array (flat m) ∙ count-ext (entry (flat m)) m (λ x y h k. entry-flat m x y h k)

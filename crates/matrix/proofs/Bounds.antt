@@ -1,4 +1,5 @@
--- How many entries a matrix can have: at most 144, at most 121 with a zero diagonal and a zero column, and those of its column where it is one column alone. Assumes nothing.
+-- How many entries a matrix can have: at most 144, at most 121 with a zero diagonal and a zero column,
+-- and those of its column where it is one column alone. Assumes nothing.
 use Prim.Native.Nat.{_<_, _≤_, ℕ}
 use mathlib.Core.Path.{_≡_, ap}
 use native.Mathlib.Nat.{mul-le-mul}

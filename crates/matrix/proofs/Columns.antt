@@ -40,7 +40,11 @@ count-few m n h z = sum-le 12 n (columnCount m) h z
 pub count-only : (m : Matrix) (l n : ℕ) → ((x : ℕ) → n ≤ x → m x l ≡ 0) → count (only l m) ≤ n
 unfolding count
 count-only m l n h =
-    omega (arith, sum-single 12 l (columnCount (only l m)) (λ y ne. column-zero (only l m) y (λ x. only-zero l m x y ne)), column-few (only l m) l n (λ x le. only-col l m x ∙ h x le))
+    omega (
+      arith,
+      sum-single 12 l (columnCount (only l m)) (λ y ne. column-zero (only l m) y (λ x. only-zero l m x y ne)),
+      column-few (only l m) l n (λ x le. only-col l m x ∙ h x le),
+    )
 
 -- no column has more entries than the fullest, which is one of the twelve
 pub fullest-le : (m : Matrix) (y : ℕ) → y < 12 → columnCount m y ≤ columnCount m (fullest m)
@@ -75,7 +79,12 @@ two-other n me l m f h e = omega (arith, column-zero m l (λ x. rw e (f .own x))
 -- a column cleared keeps the rules, has one entry, and leaves the other columns
 pub clear-rules : (n me l : ℕ) (m : Matrix) → MatrixRules n me m → me < n → l < n → l ≢ me → MatrixRules n me (clear me l m)
 clear-rules n me l m f hi hl ne =
-    record { rows = rows; columns = λ x y q. clear-keep me l m x y (omega arith) ∙ f .columns x y q; diagonal = diagonal; own = λ x. clear-keep me l m x me (λ e. ne (sym e)) ∙ f .own x }
+    record {
+      rows = rows;
+      columns = λ x y q. clear-keep me l m x y (omega arith) ∙ f .columns x y q;
+      diagonal = diagonal;
+      own = λ x. clear-keep me l m x me (λ e. ne (sym e)) ∙ f .own x;
+    }
   where
     rows : (x y : ℕ) → n ≤ x → clear me l m x y ≡ 0
     rows x y q = go (ℕ-discrete y l)
@@ -96,7 +105,11 @@ pub clear-one : (me l : ℕ) (m : Matrix) → me < 12 → columnCount (clear me 
 unfolding columnCount
 clear-one me l m h =
     let a : nonZero (clear me l m me l) ≡ 1 = ap nonZero (clear-mine me l m) in
-    omega (arith, sum-single 12 me (λ x. nonZero (clear me l m x l)) (λ x ne. ap nonZero (clear-gone me l m x ne)), sum-at 12 (λ x. nonZero (clear me l m x l)) me h)
+    omega (
+      arith,
+      sum-single 12 me (λ x. nonZero (clear me l m x l)) (λ x ne. ap nonZero (clear-gone me l m x ne)),
+      sum-at 12 (λ x. nonZero (clear me l m x l)) me h,
+    )
 
 -- the other columns keep theirs
 pub clear-same : (me l : ℕ) (m : Matrix) (y : ℕ) → y ≢ l → columnCount (clear me l m) y ≡ columnCount m y
@@ -161,7 +174,12 @@ crowded-le m = sum-ones 12 (wide m) (λ y _. wide-le m y)
 pub crowded-down : (me l : ℕ) (m : Matrix) → me < 12 → l < 12 → 2 ≤ columnCount m l → suc (crowded (clear me l m)) ≡ crowded m
 unfolding crowded wide
 crowded-down me l m hi hl h =
-    omega (arith, sum-change 12 l (wide (clear me l m)) (wide m) hl (λ y ne. ap (λ (z : ℕ). cond (leb 2 z) 1 0) (clear-same me l m y ne)), wide-yes m l h, wide-no (clear me l m) l (omega (arith, clear-one me l m hi)))
+    omega (
+      arith,
+      sum-change 12 l (wide (clear me l m)) (wide m) hl (λ y ne. ap (λ (z : ℕ). cond (leb 2 z) 1 0) (clear-same me l m y ne)),
+      wide-yes m l h,
+      wide-no (clear me l m) l (omega (arith, clear-one me l m hi)),
+    )
 
 -- with such a column there is one
 pub crowded-some : (l : ℕ) (m : Matrix) → l < 12 → 2 ≤ columnCount m l → 1 ≤ crowded m

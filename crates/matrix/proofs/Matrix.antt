@@ -14,12 +14,15 @@ use Rattle.wire.proofs.Tests.{cond-elim, cond-no, cond-other, cond-same, cond-y
 -- the largest: it is one of the numbers, and none has more
 pub largest-lt : (k : ℕ) (g : ℕ → ℕ) → largest (suc k) g < suc k
 largest-lt zero g = cond-elim (λ (z : ℕ). z < 1) (ltb (g 0) (g 0)) 0 0 (λ t. omega arith) (λ t. omega arith)
-largest-lt (suc k) g = cond-elim (λ (z : ℕ). z < suc (suc k)) (ltb (g (largest (suc k) g)) (g (suc k))) (suc k) (largest (suc k) g) (λ t. omega arith) (λ t. omega (arith, largest-lt k g))
+largest-lt (suc k) g =
+    cond-elim (λ (z : ℕ). z < suc (suc k)) (ltb (g (largest (suc k) g)) (g (suc k))) (suc k) (largest (suc k) g)
+    (λ t. omega arith) (λ t. omega (arith, largest-lt k g))
 
 pub largest-le : (k : ℕ) (g : ℕ → ℕ) (x : ℕ) → x < k → g x ≤ g (largest k g)
 largest-le zero g x h = absurd (not-suc-le-zero h)
 largest-le (suc k) g x h =
-    cond-elim (λ (z : ℕ). g x ≤ g z) (ltb (g (largest k g)) (g k)) k (largest k g) (λ t. yes-case (largest-le k g x) (ltb→lt (g (largest k g)) (g k) t) (ℕ-discrete x k)) (λ t. no-case (largest-le k g x) (nltb→le (g (largest k g)) (g k) t) (ℕ-discrete x k))
+    cond-elim (λ (z : ℕ). g x ≤ g z) (ltb (g (largest k g)) (g k)) k (largest k g) (λ t. yes-case (largest-le k g x) (ltb→lt (g (largest k g)) (g k) t)
+    (ℕ-discrete x k)) (λ t. no-case (largest-le k g x) (nltb→le (g (largest k g)) (g k) t) (ℕ-discrete x k))
   where
     yes-case : (x < k → g x ≤ g (largest k g)) → g (largest k g) < g k → Dec (x ≡ k) → g x ≤ g k
     yes-case ih l (yes e) = rw e (omega arith)

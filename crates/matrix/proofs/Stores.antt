@@ -32,12 +32,15 @@ emptied-none l j e = sym (flat-back l e) ∙ flat-ext (entry l) (emptied 0 j (en
 
 pub emptied-more : (m : Matrix) (r j : ℕ) → r < 12 → j < 12 → set (flat (emptied r j m)) (12 * r + j) 0 ≡ flat (emptied (r + 1) j m)
 emptied-more m r j h k =
-    set-flat (emptied r j m) r j 0 h k ∙ flat-ext (stored r j 0 (emptied r j m)) (emptied (r + 1) j m) (λ x y _ _. go x y (ℕ-discrete y j) (ℕ-discrete x r) (decLt x r))
+    set-flat (emptied r j m) r j 0 h k
+    ∙ flat-ext (stored r j 0 (emptied r j m)) (emptied (r + 1) j m) (λ x y _ _. go x y (ℕ-discrete y j) (ℕ-discrete x r) (decLt x r))
   where
     go : (x y : ℕ) → Dec (y ≡ j) → Dec (x ≡ r) → Dec (x < r) → stored r j 0 (emptied r j m) x y ≡ emptied (r + 1) j m x y
     go x y (yes p) (yes q) d = rw (p, q, stored-here) (sym (emptied-in (r + 1) j m r (omega arith)))
-    go x y (yes p) (no q) (yes d) = rw p (stored-else r j 0 (emptied r j m) x j (λ a _. q a) ∙ emptied-in r j m x d ∙ sym (emptied-in (r + 1) j m x (omega arith)))
-    go x y (yes p) (no q) (no d) = stored-else r j 0 (emptied r j m) x y (λ a _. q a) ∙ emptied-out r j m x y (λ _ a. d a) ∙ sym (emptied-out (r + 1) j m x y (λ _ a. omega arith))
+    go x y (yes p) (no q) (yes d) =
+        rw p (stored-else r j 0 (emptied r j m) x j (λ a _. q a) ∙ emptied-in r j m x d ∙ sym (emptied-in (r + 1) j m x (omega arith)))
+    go x y (yes p) (no q) (no d) =
+        stored-else r j 0 (emptied r j m) x y (λ a _. q a) ∙ emptied-out r j m x y (λ _ a. d a) ∙ sym (emptied-out (r + 1) j m x y (λ _ a. omega arith))
     go x y (no p) e d = stored-else r j 0 (emptied r j m) x y (λ _ b. p b) ∙ emptied-out r j m x y (λ a _. p a) ∙ sym (emptied-out (r + 1) j m x y (λ a _. p a))
 
 pub emptied-clear : (m : Matrix) (i j v : ℕ) → i < 12 → j < 12 → v ≡ suc (m i j) → set (flat (emptied 12 j m)) (12 * i + j) v ≡ flat (clear i j m)
@@ -56,7 +59,8 @@ single-here a b v = cond-yes (eqb a a && eqb b b) v 0 (T-and (eqb a a) (eqb b b)
 
 single-else : (a b v x y : ℕ) → (x ≡ a → y ≡ b → ⊥) → single a b v x y ≡ 0
 unfolding single
-single-else a b v x y h = cond-no (eqb x a && eqb y b) v 0 (not-T (eqb x a && eqb y b) (λ t. let p = and-T (eqb x a) (eqb y b) t in h (eqb→eq x a (p .0)) (eqb→eq y b (p .1))))
+single-else a b v x y h =
+    cond-no (eqb x a && eqb y b) v 0 (not-T (eqb x a && eqb y b) (λ t. let p = and-T (eqb x a) (eqb y b) t in h (eqb→eq x a (p .0)) (eqb→eq y b (p .1))))
 
 -- an entry of the node's own column changes nothing, and another becomes the larger one
 pub merge-mine : (l : List ℕ) (j x y v : ℕ) → length l ≡ 144 → y ≡ j → l ≡ flat (merge j (entry l) (single x y v))
@@ -69,7 +73,8 @@ merge-mine l j x y v e q = sym (flat-back l e) ∙ flat-ext (entry l) (merge j (
 pub merge-one : (l : List ℕ) (j x y v : ℕ) → length l ≡ 144 → x < 12 → y < 12 → (y ≡ j → ⊥)
     → set l (12 * x + y) (max (getD l (12 * x + y) 0) v) ≡ flat (merge j (entry l) (single x y v))
 merge-one l j x y v e h k ne =
-    set-entry l x y w e h k ∙ flat-ext (stored x y w (entry l)) (merge j (entry l) (single x y v)) (λ a b _ _. go a b (ℕ-discrete b j) (ℕ-discrete a x) (ℕ-discrete b y))
+    set-entry l x y w e h k
+    ∙ flat-ext (stored x y w (entry l)) (merge j (entry l) (single x y v)) (λ a b _ _. go a b (ℕ-discrete b j) (ℕ-discrete a x) (ℕ-discrete b y))
   where
     w : ℕ
     w = max (getD l (12 * x + y) 0) v

@@ -43,7 +43,8 @@ pub record InRange (n cap : ℕ) : Type 0 where
   pub capFrom : n ≤ cap
   pub capTo : cap ≤ n * n
 
--- the rules of an entry (x, y) that is not zero: row and column below n and unequal, column ≠ from, value at most 1,000,000,000, and in an extra the column is to
+-- the rules of an entry (x, y) that is not zero: row and column below n and unequal, column ≠ from,
+-- value at most 1,000,000,000, and in an extra the column is to
 pub record SoundEntry (m : Message) (x y : ℕ) : Type 0 where
   pub row : x < m .n
   pub column : y < m .n

@@ -49,8 +49,10 @@ module _ (r : Record) (q out body : List ℕ) (d : Node) (o : Outcome) (a : acce
   after o = cond (accepted (o .answer)) (acceptDeliver r q out body o (delivery (o .answer))) (refuseDeliver (refusal (o .answer)) r q out body)
 
   by-checks : (t₂ t₃ t₄ t₅ : Bool)
-      → cond t₂ (refuseDeliver 2 r q out body) (cond t₃ (refuseDeliver 3 r q out body) (cond t₄ (refuseDeliver 4 r q out body) (after (cond t₅ (refuse 5 d) o))))
-      ≡ cond (eqb (cond t₂ 2 (cond t₃ 3 (cond t₄ 4 (cond t₅ 5 0)))) 0) (acceptDeliver r q out body o (delivery (o .answer))) (refuseDeliver (cond t₂ 2 (cond t₃ 3 (cond t₄ 4 (cond t₅ 5 0)))) r q out body)
+      → cond t₂ (refuseDeliver 2 r q out body)
+      (cond t₃ (refuseDeliver 3 r q out body) (cond t₄ (refuseDeliver 4 r q out body) (after (cond t₅ (refuse 5 d) o))))
+      ≡ cond (eqb (cond t₂ 2 (cond t₃ 3 (cond t₄ 4 (cond t₅ 5 0)))) 0) (acceptDeliver r q out body o (delivery (o .answer)))
+      (refuseDeliver (cond t₂ 2 (cond t₃ 3 (cond t₄ 4 (cond t₅ 5 0)))) r q out body)
   unfolding after
   by-checks true t₃ t₄ t₅ = refl
   by-checks false true t₄ t₅ = refl
@@ -72,14 +74,17 @@ conclude-accepts d (found k m others) = refl
 
 pub deliver-by-refusal : (r : Record) (q out body : List ℕ)
     → deliverCall r q out body
-    ≡ cond (eqb (deliverRefusal r q (shortOutputs (length out) (length body))) 0) (acceptDeliver r q out body (concluded r q) (delivery ((concluded r q) .answer))) (refuseDeliver (deliverRefusal r q (shortOutputs (length out) (length body))) r q out body)
+    ≡ cond (eqb (deliverRefusal r q (shortOutputs (length out) (length body))) 0) (acceptDeliver r q out body (concluded r q)
+    (delivery ((concluded r q) .answer))) (refuseDeliver (deliverRefusal r q (shortOutputs (length out) (length body))) r q out body)
 unfolding deliverCall deliverRefusal recordRefusal deliver after
 deliver-by-refusal r q out body =
     let d = nodeAt r q in
-    by-checks r q out body d (concluded r q) (conclude-accepts d (searched r q)) (brokenRecord r) (shortOutputs (length out) (length body) || not (eqb (length q) queueSize)) (wrongQueue (nodeOf r []) (r .held) q) (atLimit d)
+    by-checks r q out body d (concluded r q) (conclude-accepts d (searched r q)) (brokenRecord r)
+    (shortOutputs (length out) (length body) || not (eqb (length q) queueSize)) (wrongQueue (nodeOf r []) (r .held) q) (atLimit d)
 
 -- a refused deliver, and an accepted one
-pub deliver-refused : (r : Record) (q out body : List ℕ) (k : ℕ) → k ≡ deliverRefusal r q (shortOutputs (length out) (length body)) → (k ≡ 0 → ⊥) → refuseDeliver k r q out body ≡ deliverCall r q out body
+pub deliver-refused : (r : Record) (q out body : List ℕ) (k : ℕ) → k ≡ deliverRefusal r q (shortOutputs (length out) (length body)) → (k ≡ 0 → ⊥)
+    → refuseDeliver k r q out body ≡ deliverCall r q out body
 deliver-refused r q out body k e h = sym (deliver-by-refusal r q out body ∙ rw (← e, ne-eqb k 0 h))
 
 pub deliver-accepted : (r : Record) (q out body : List ℕ) → deliverRefusal r q (shortOutputs (length out) (length body)) ≡ 0
@@ -133,7 +138,8 @@ deliver-ready r q out body e =
 
 -- no held frame is deliverable
 pub deliver-none : (r : Record) (q out body : List ℕ) (place : ℕ) → place ≡ placeOf (searched r q) → place ≡ 0
-    → afterDeliver (record { answer = deliverAnswer.Nothing (r .held); node = r }) q out body ≡ acceptDeliver r q out body (concluded r q) (delivery ((concluded r q) .answer))
+    → afterDeliver (record { answer = deliverAnswer.Nothing (r .held); node = r }) q out body
+    ≡ acceptDeliver r q out body (concluded r q) (delivery ((concluded r q) .answer))
 deliver-none r q out body place e z =
     let a : searched r q ≡ absent = found-none (deliverable (nodeAt r q)) (heldMessages (r .held) q) (sym e ∙ z) in
     let all : r .held ≡ length (heldMessages (r .held) q) = sym (length-messages (r .held) q) in
@@ -144,7 +150,8 @@ deliver-none r q out body place e z =
 pub place-held : (r : Record) (q : List ℕ) (place : ℕ) → place ≡ placeOf (searched r q) → (place ≡ 0 → ⊥) → place - 1 < r .held
 place-held r q place e h = found-held (deliverable (nodeAt r q)) (r .held) q (place - 1) (omega arith) .0
 
-learn-same : (k : Kind) (me n cap : ℕ) (m v w : List ℕ) (l : List Message) (e : Matrix) → learn k (nodeWith me n cap m w []) e ≡ learn k (nodeWith me n cap m v l) e
+learn-same : (k : Kind) (me n cap : ℕ) (m v w : List ℕ) (l : List Message) (e : Matrix)
+    → learn k (nodeWith me n cap m w []) e ≡ learn k (nodeWith me n cap m v l) e
 learn-same user me n cap m v w l e = refl
 learn-same extra me n cap m v w l e = refl
 
@@ -163,28 +170,73 @@ module _ (r : Record) (q out body : List ℕ) (place : ℕ) (e : place ≡ place
 
   pub deliver-leaves : (s : List ℕ) (d : Delivered) (m₁ v₁ q₁ out₁ body₁ : List ℕ) → s ≡ frameAt q (place - 1)
       → (let u : Trimmed = learn (decode s .kind) (nodeWith (r .me) (r .n) (r .cap) (r .m) [] []) (decode s .entries) in
-      (d ≡ record { kind = kindByte (decode s .kind); from = decode s .from; number = number (decode s); tried = place; body = length (decode s .body); bytes = length (framesOf (u .extras)); extras = length (u .extras) })
+      (d ≡ record {
+        kind = kindByte (decode s .kind);
+        from = decode s .from;
+        number = number (decode s);
+        tried = place;
+        body = length (decode s .body);
+        bytes = length (framesOf (u .extras));
+        extras = length (u .extras);
+      })
       × (m₁ ≡ flat (u .matrix)) × (out₁ ≡ put out 0 (framesOf (u .extras))) × (body₁ ≡ put body 0 (decode s .body)))
       → v₁ ≡ listFrom 0 12 (countUp (d .from) (vector (r .deliv))) → q₁ ≡ laid (without (place - 1) (heldFrames (r .held) q))
-      → afterDeliver (record { answer = deliverAnswer.Frame d; node = record { me = r .me; n = r .n; cap = r .cap; m = m₁; deliv = v₁; held = r .held - 1 } }) q₁ out₁ body₁
+      → afterDeliver (record {
+        answer = deliverAnswer.Frame d;
+        node = record { me = r .me; n = r .n; cap = r .cap; m = m₁; deliv = v₁; held = r .held - 1 };
+      }) q₁ out₁ body₁
       ≡ acceptDeliver r q out body (concluded r q) (delivery ((concluded r q) .answer))
   deliver-leaves s d m₁ v₁ q₁ out₁ body₁ p w c x =
       let f = found-held (deliverable (nodeAt r q)) (r .held) q j (omega arith) in
-      let u : learn (decode s .kind) (nodeWith (r .me) (r .n) (r .cap) (r .m) [] []) (decode s .entries) ≡ t = rw p (learn-same (g .kind) (r .me) (r .n) (r .cap) (r .m) (r .deliv) [] (heldMessages (r .held) q) (g .entries)) in
+      let u : learn (decode s .kind) (nodeWith (r .me) (r .n) (r .cap) (r .m) [] []) (decode s .entries) ≡ t
+      = rw p (learn-same (g .kind) (r .me) (r .n) (r .cap) (r .m) (r .deliv) [] (heldMessages (r .held) q) (g .entries)) in
       let tried : place ≡ suc j = omega arith in
       let text : decode s .body ≡ g .body = rw p in
-      let told : d ≡ record { kind = kindByte (g .kind); from = g .from; number = number g; tried = suc j; body = length (g .body); bytes = length (framesOf (t .extras)); extras = length (t .extras) }
-      = w .0 ∙ (λ z. record { kind = kindByte (decode (p z) .kind); from = decode (p z) .from; number = number (decode (p z)); tried = tried z; body = length (text z); bytes = length (framesOf (u z .extras)); extras = length (u z .extras) }) in
+      let told : d ≡ record {
+        kind = kindByte (g .kind);
+        from = g .from;
+        number = number g;
+        tried = suc j;
+        body = length (g .body);
+        bytes = length (framesOf (t .extras));
+        extras = length (t .extras);
+      }
+      = w .0 ∙ (λ z. record {
+        kind = kindByte (decode (p z) .kind);
+        from = decode (p z) .from;
+        number = number (decode (p z));
+        tried = tried z;
+        body = length (text z);
+        bytes = length (framesOf (u z .extras));
+        extras = length (u z .extras);
+      }) in
       let matrix : m₁ ≡ flat (t .matrix) = w .1 ∙ ap (λ (y : Trimmed). flat (y .matrix)) u in
       let frames : out₁ ≡ put out 0 (framesOf (t .extras)) = w .2 ∙ ap (λ (y : Trimmed). put out 0 (framesOf (y .extras))) u in
       let written : body₁ ≡ put body 0 (g .body) = w .3 ∙ ap (put body 0) text in
-      let counts : v₁ ≡ listFrom 0 12 (countUp (g .from) (vector (r .deliv))) = c ∙ ap (λ (y : Delivered). listFrom 0 12 (countUp (y .from) (vector (r .deliv)))) told in
-      let fewer : r .held - 1 ≡ length (map decode others) = omega (arith, length-map others decode, length-without j (heldFrames (r .held) q) (omega (arith, f .0, length-held (r .held) q)), length-held (r .held) q) in
+      let counts : v₁ ≡ listFrom 0 12 (countUp (g .from) (vector (r .deliv)))
+      = c ∙ ap (λ (y : Delivered). listFrom 0 12 (countUp (y .from) (vector (r .deliv)))) told in
+      let fewer : r .held - 1 ≡ length (map decode others) = omega (
+        arith,
+        length-map others decode,
+        length-without j (heldFrames (r .held) q) (omega (arith, f .0, length-held (r .held) q)),
+        length-held (r .held) q,
+      ) in
       let last : place - 1 ≡ suc j - 1 = omega arith in
       let queue : q₁ ≡ laid (without (suc j - 1) (heldFrames (r .held) q)) = x ∙ ap (λ (i : ℕ). laid (without i (heldFrames (r .held) q))) last in
-      let given : afterDeliver (record { answer = deliverAnswer.Frame d; node = record { me = r .me; n = r .n; cap = r .cap; m = m₁; deliv = v₁; held = r .held - 1 } }) q₁ out₁ body₁
+      let given : afterDeliver (record {
+        answer = deliverAnswer.Frame d;
+        node = record { me = r .me; n = r .n; cap = r .cap; m = m₁; deliv = v₁; held = r .held - 1 };
+      }) q₁ out₁ body₁
       ≡ acceptDeliver r q out body (conclude (nodeAt r q) (found (suc j) g (map decode others))) (some (label g))
-      = λ z. record { result = record { answer = deliverAnswer.Frame (told z); node = record { me = r .me; n = r .n; cap = r .cap; m = matrix z; deliv = counts z; held = fewer z } }; queue = queue z; out = frames z; body = written z } in
+      = λ z. record {
+        result = record {
+          answer = deliverAnswer.Frame (told z);
+          node = record { me = r .me; n = r .n; cap = r .cap; m = matrix z; deliv = counts z; held = fewer z };
+        };
+        queue = queue z;
+        out = frames z;
+        body = written z;
+      } in
       given ∙ ap (λ (y : Search). acceptDeliver r q out body (conclude (nodeAt r q) y) (delivery ((conclude (nodeAt r q) y) .answer))) (sym (f .1))
 
 -- what the calls on the frame found ask

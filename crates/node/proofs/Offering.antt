@@ -57,7 +57,8 @@ module _ (r : Record) (s q : List ℕ) (d : Node) (o : Outcome) (a : accepted (o
       go (yes p) = rw (eq-eqb f 0 p) e
       go (no p) = rw (ne-eqb f 0 p) (rw (ne-eqb f 0 p))
 
-  by-record : (t₂ t₃ t₄ : Bool) (x : AfterOffer) (k : ℕ) → x ≡ by k → cond t₂ (refuseOffer 2 r q) (cond t₃ (refuseOffer 3 r q) (cond t₄ (refuseOffer 4 r q) x)) ≡ by (cond t₂ 2 (cond t₃ 3 (cond t₄ 4 k)))
+  by-record : (t₂ t₃ t₄ : Bool) (x : AfterOffer) (k : ℕ) → x ≡ by k
+      → cond t₂ (refuseOffer 2 r q) (cond t₃ (refuseOffer 3 r q) (cond t₄ (refuseOffer 4 r q) x)) ≡ by (cond t₂ 2 (cond t₃ 3 (cond t₄ 4 k)))
   unfolding by
   by-record true t₃ t₄ x k e = refl
   by-record false true t₄ x k e = refl
@@ -91,7 +92,8 @@ pub offer-frame : (r : Record) (s q : List ℕ) → RecordPassed r q false → (
 unfolding offerRefusal
 offer-frame r s q p k e h = sym (record-past r q false _ p ∙ rw (← e, ne-eqb k 0 h))
 
-pub offer-hold : (r : Record) (s q : List ℕ) → RecordPassed r q false → frameRefusal (r .n) (r .cap) s ≡ 0 → offerRefusal r s q ≡ holdRefusal (nodeAt r q) (decode s)
+pub offer-hold : (r : Record) (s q : List ℕ) → RecordPassed r q false → frameRefusal (r .n) (r .cap) s ≡ 0
+    → offerRefusal r s q ≡ holdRefusal (nodeAt r q) (decode s)
 unfolding offerRefusal
 offer-hold r s q p e = record-past r q false _ p ∙ rw e
 
@@ -99,12 +101,14 @@ offer-hold r s q p e = record-past r q false _ p ∙ rw e
 module _ (d : Node) (m : Message) where
   pub hold-arrival : (k : ℕ) → k ≡ arrivalRefusal d m → (k ≡ 0 → ⊥) → k ≡ holdRefusal d m
   unfolding arrivalRefusal holdRefusal
-  hold-arrival k e h = e ∙ first-met 12 13 14 (cond (heldAlready d m) 15 (cond (noRoom d m) 16 0)) (notForMe d m) (claimsTooMuch d m) (deliveredBefore d m) (λ z. h (e ∙ z))
+  hold-arrival k e h =
+      e ∙ first-met 12 13 14 (cond (heldAlready d m) 15 (cond (noRoom d m) 16 0)) (notForMe d m) (claimsTooMuch d m) (deliveredBefore d m) (λ z. h (e ∙ z))
 
   hold-left : arrivalRefusal d m ≡ 0 → holdRefusal d m ≡ cond (heldAlready d m) 15 (cond (noRoom d m) 16 0)
   unfolding arrivalRefusal holdRefusal
   hold-left e =
-      first-none 12 13 14 (cond (heldAlready d m) 15 (cond (noRoom d m) 16 0)) (notForMe d m) (claimsTooMuch d m) (deliveredBefore d m) (λ z. omega arith) (λ z. omega arith) (λ z. omega arith) e
+      first-none 12 13 14 (cond (heldAlready d m) 15 (cond (noRoom d m) 16 0)) (notForMe d m) (claimsTooMuch d m) (deliveredBefore d m)
+      (λ z. omega arith) (λ z. omega arith) (λ z. omega arith) e
 
   pub hold-15 : arrivalRefusal d m ≡ 0 → heldAlready d m ≡ true → holdRefusal d m ≡ 15
   hold-15 e a = hold-left e ∙ rw a
@@ -126,12 +130,21 @@ pub length-messages : (k : ℕ) (q : List ℕ) → length (heldMessages k q) ≡
 length-messages k q = length-map (heldFrames k q) decode ∙ length-held k q
 
 -- what an accepted offer leaves
-pub offer-leaves : (r : Record) (s q q′ : List ℕ) (ready : Bool) (held : ℕ) → q′ ≡ laid (heldFrames (r .held) q ++ (s ∷ [])) → ready ≡ deliverable (nodeAt r q) (decode s) → held ≡ r .held + 1
-    → afterOffer (record { answer = offerAnswer.Held held ready; node = record { me = r .me; n = r .n; cap = r .cap; m = r .m; deliv = r .deliv; held = held } }) q′
+pub offer-leaves : (r : Record) (s q q′ : List ℕ) (ready : Bool) (held : ℕ) → q′ ≡ laid (heldFrames (r .held) q ++ (s ∷ []))
+    → ready ≡ deliverable (nodeAt r q) (decode s) → held ≡ r .held + 1
+    → afterOffer (record {
+      answer = offerAnswer.Held held ready;
+      node = record { me = r .me; n = r .n; cap = r .cap; m = r .m; deliv = r .deliv; held = held };
+    }) q′
     ≡ acceptOffer r s q (holding (nodeAt r q) (decode s))
 offer-leaves r s q q′ ready held p w e =
-    let more : held ≡ length (heldMessages (r .held) q ++ (decode s ∷ [])) = omega (arith, length-append (heldMessages (r .held) q) (decode s ∷ []), length-messages (r .held) q) in
-    λ z. record { result = record { answer = offerAnswer.Held (more z) (w z); node = record { me = r .me; n = r .n; cap = r .cap; m = r .m; deliv = r .deliv; held = more z } }; queue = p z }
+    let more : held ≡ length (heldMessages (r .held) q ++ (decode s ∷ []))
+    = omega (arith, length-append (heldMessages (r .held) q) (decode s ∷ []), length-messages (r .held) q) in
+    λ z. record {
+      result =
+          record { answer = offerAnswer.Held (more z) (w z); node = record { me = r .me; n = r .n; cap = r .cap; m = r .m; deliv = r .deliv; held = more z } };
+      queue = p z;
+    }
 
 -- what a message that the protocol holds passed
 pub record HoldPassed (d : Node) (m : Message) : Type 0 where
@@ -161,7 +174,8 @@ pub record Holdable (r : Record) (s q : List ℕ) : Type 0 where
   pub queue : q ≡ laid (heldFrames (r .held) q)
   pub size : length q ≡ queueSize
 
-pub holdable : (r : Record) (s q : List ℕ) → RecordPassed r q false → frameRefusal (r .n) (r .cap) s ≡ 0 → holdRefusal (nodeAt r q) (decode s) ≡ 0 → Holdable r s q
+pub holdable : (r : Record) (s q : List ℕ) → RecordPassed r q false → frameRefusal (r .n) (r .cap) s ≡ 0
+    → holdRefusal (nodeAt r q) (decode s) ≡ 0 → Holdable r s q
 holdable r s q p f h =
     record {
       room = below16 (ℕ-discrete (r .held) 16);

@@ -43,7 +43,8 @@ module _ (r : Record) (out : List ℕ) (d : Node) (s : Outcome) (a : accepted (s
 
   by-checks : (t₂ t₃ t₅ t₆ t₇ : Bool)
       → cond t₂ (refuseSend 2 r out) (cond t₃ (refuseSend 3 r out) (after (cond t₅ (refuse 5 d) (cond t₆ (refuse 6 d) (cond t₇ (refuse 7 d) s)))))
-      ≡ cond (eqb (cond t₂ 2 (cond t₃ 3 (cond t₅ 5 (cond t₆ 6 (cond t₇ 7 0))))) 0) (acceptSend r out s) (refuseSend (cond t₂ 2 (cond t₃ 3 (cond t₅ 5 (cond t₆ 6 (cond t₇ 7 0))))) r out)
+      ≡ cond (eqb (cond t₂ 2 (cond t₃ 3 (cond t₅ 5 (cond t₆ 6 (cond t₇ 7 0))))) 0) (acceptSend r out s)
+      (refuseSend (cond t₂ 2 (cond t₃ 3 (cond t₅ 5 (cond t₆ 6 (cond t₇ 7 0))))) r out)
   unfolding after
   by-checks true t₃ t₅ t₆ t₇ = refl
   by-checks false true t₅ t₆ t₇ = refl
@@ -54,16 +55,20 @@ module _ (r : Record) (out : List ℕ) (d : Node) (s : Outcome) (a : accepted (s
 
 pub send-by-refusal : (r : Record) (to : ℕ) (body out : List ℕ)
     → sendCall r to body out
-    ≡ cond (eqb (sendRefusal r to (length body) (length out)) 0) (acceptSend r out (sending (nodeOf r []) to body)) (refuseSend (sendRefusal r to (length body) (length out)) r out)
+    ≡ cond (eqb (sendRefusal r to (length body) (length out)) 0) (acceptSend r out (sending (nodeOf r []) to body))
+    (refuseSend (sendRefusal r to (length body) (length out)) r out)
 unfolding sendCall sendRefusal send after
 send-by-refusal r to body out =
-    by-checks r out (nodeOf r []) (sending (nodeOf r []) to body) refl (brokenRecord r) (ltb (length out) outSize) (atLimit (nodeOf r [])) (badDestination (nodeOf r []) to) (longBody body)
+    by-checks r out (nodeOf r []) (sending (nodeOf r []) to body) refl (brokenRecord r) (ltb (length out) outSize) (atLimit (nodeOf r []))
+    (badDestination (nodeOf r []) to) (longBody body)
 
 -- a refused send, and an accepted one
-pub send-refused : (r : Record) (to : ℕ) (body out : List ℕ) (k : ℕ) → k ≡ sendRefusal r to (length body) (length out) → (k ≡ 0 → ⊥) → refuseSend k r out ≡ sendCall r to body out
+pub send-refused : (r : Record) (to : ℕ) (body out : List ℕ) (k : ℕ) → k ≡ sendRefusal r to (length body) (length out) → (k ≡ 0 → ⊥)
+    → refuseSend k r out ≡ sendCall r to body out
 send-refused r to body out k e h = sym (send-by-refusal r to body out ∙ rw (← e, ne-eqb k 0 h))
 
-pub send-accepted : (r : Record) (to : ℕ) (body out : List ℕ) → sendRefusal r to (length body) (length out) ≡ 0 → acceptSend r out (sending (nodeOf r []) to body) ≡ sendCall r to body out
+pub send-accepted : (r : Record) (to : ℕ) (body out : List ℕ) → sendRefusal r to (length body) (length out) ≡ 0
+    → acceptSend r out (sending (nodeOf r []) to body) ≡ sendCall r to body out
 send-accepted r to body out e = sym (send-by-refusal r to body out ∙ rw e)
 
 -- what an accepted send leaves: the user frame, then the extra frames behind it, and the trimmed matrix
@@ -77,19 +82,31 @@ module _ (r : Record) (to : ℕ) (body out : List ℕ) (lower : r .me < 12) (upp
   abbrev t : Trimmed
   t = trimFor 12 (r .me) (r .n) (r .cap) (clear (r .me) to m)
 
-  pub send-leaves : (m₁ m₂ out₁ out₂ : List ℕ) (at end extras : ℕ) → out₁ ≡ put out 0 (encode user) → at ≡ 0 + 12 + 6 * count m + length body → m₁ ≡ flat (clear (r .me) to m)
-      → (let t₁ : Trimmed = trimFor 12 (r .me) (r .n) (r .cap) (entry m₁) in (m₂ ≡ flat (t₁ .matrix)) × (out₂ ≡ put out₁ at (framesOf (t₁ .extras))) × (end ≡ at + length (framesOf (t₁ .extras))) × (extras ≡ length (t₁ .extras)))
-      → afterSend (record { answer = sendAnswer.Sent end extras; node = record { me = r .me; n = r .n; cap = r .cap; m = m₂; deliv = r .deliv; held = r .held } }) out₂
+  pub send-leaves : (m₁ m₂ out₁ out₂ : List ℕ) (at end extras : ℕ) → out₁ ≡ put out 0 (encode user)
+      → at ≡ 0 + 12 + 6 * count m + length body → m₁ ≡ flat (clear (r .me) to m)
+      → (let t₁ : Trimmed = trimFor 12 (r .me) (r .n) (r .cap) (entry m₁) in
+      (m₂ ≡ flat (t₁ .matrix)) × (out₂ ≡ put out₁ at (framesOf (t₁ .extras))) × (end ≡ at + length (framesOf (t₁ .extras))) × (extras ≡ length (t₁ .extras)))
+      → afterSend (record {
+        answer = sendAnswer.Sent end extras;
+        node = record { me = r .me; n = r .n; cap = r .cap; m = m₂; deliv = r .deliv; held = r .held };
+      }) out₂
       ≡ acceptSend r out (sending (nodeOf r []) to body)
   send-leaves m₁ m₂ out₁ out₂ at end extras p q e w =
       let same : entry m₁ ≡ clear (r .me) to m = ap entry e ∙ entry-back (clear (r .me) to m) (inside-clear (r .me) to m lower upper (inside-entry (r .m))) in
       let trimmed : trimFor 12 (r .me) (r .n) (r .cap) (entry m₁) ≡ t = ap (trimFor 12 (r .me) (r .n) (r .cap)) same in
       let start : at ≡ 0 + length (encode user) = omega (arith, length-encode user) in
       let bytes : out₂ ≡ put out 0 (framesOf (user ∷ t .extras)) = w .1 ∙ rw (trimmed, p, start, put-frames out 0 user (t .extras)) in
-      let last : end ≡ length (framesOf (user ∷ t .extras)) = omega (arith, w .2, ap (λ (u : Trimmed). length (framesOf (u .extras))) trimmed, length-frames user (t .extras)) in
+      let last : end ≡ length (framesOf (user ∷ t .extras))
+      = omega (arith, w .2, ap (λ (u : Trimmed). length (framesOf (u .extras))) trimmed, length-frames user (t .extras)) in
       let number : extras ≡ suc (length (t .extras)) - 1 = omega (arith, w .3, ap (λ (u : Trimmed). length (u .extras)) trimmed) in
       let matrix : m₂ ≡ flat (t .matrix) = w .0 ∙ ap (λ (u : Trimmed). flat (u .matrix)) trimmed in
-      λ z. record { result = record { answer = sendAnswer.Sent (last z) (number z); node = record { me = r .me; n = r .n; cap = r .cap; m = matrix z; deliv = r .deliv; held = r .held } }; out = bytes z }
+      λ z. record {
+        result = record {
+          answer = sendAnswer.Sent (last z) (number z);
+          node = record { me = r .me; n = r .n; cap = r .cap; m = matrix z; deliv = r .deliv; held = r .held };
+        };
+        out = bytes z;
+      }
 
 -- the checks of a send one after the other
 module _ (r : Record) (to body out : ℕ) where
@@ -109,11 +126,13 @@ module _ (r : Record) (to body out : ℕ) where
   unfolding sendRefusal
   send-6 a b c d = rw (a, le-ltb out outSize b, c, d)
 
-  pub send-7 : brokenRecord r ≡ false → outSize ≤ out → atLimit (nodeOf r []) ≡ false → badDestination (nodeOf r []) to ≡ false → maxBody < body → sendRefusal r to body out ≡ 7
+  pub send-7 : brokenRecord r ≡ false → outSize ≤ out → atLimit (nodeOf r []) ≡ false → badDestination (nodeOf r []) to ≡ false
+      → maxBody < body → sendRefusal r to body out ≡ 7
   unfolding sendRefusal
   send-7 a b c d e = rw (a, le-ltb out outSize b, c, d, lt-ltb maxBody body e)
 
-  pub send-0 : brokenRecord r ≡ false → outSize ≤ out → atLimit (nodeOf r []) ≡ false → badDestination (nodeOf r []) to ≡ false → body ≤ maxBody → sendRefusal r to body out ≡ 0
+  pub send-0 : brokenRecord r ≡ false → outSize ≤ out → atLimit (nodeOf r []) ≡ false → badDestination (nodeOf r []) to ≡ false
+      → body ≤ maxBody → sendRefusal r to body out ≡ 0
   unfolding sendRefusal
   send-0 a b c d e = rw (a, le-ltb out outSize b, c, d, le-ltb maxBody body e)
 
@@ -159,7 +178,8 @@ to-other me n to e h = rw (ne-eqb to me e, lt-ltb to n h)
 pub cleared-limit : (r : Record) (to : ℕ) (m₁ : List ℕ) → r .me < 12 → to < 12 → ((x y : ℕ) → entry (r .m) x y ≤ maxCount) → entry (r .m) (r .me) to < maxCount
     → m₁ ≡ flat (clear (r .me) to (entry (r .m))) → (x y : ℕ) → entry m₁ x y ≤ maxCount
 cleared-limit r to m₁ h k l b e x y =
-    rw (ap entry e ∙ entry-back (clear (r .me) to (entry (r .m))) (inside-clear (r .me) to (entry (r .m)) h k (inside-entry (r .m)))) (go (ℕ-discrete y to) (ℕ-discrete x (r .me)))
+    rw (ap entry e ∙ entry-back (clear (r .me) to (entry (r .m))) (inside-clear (r .me) to (entry (r .m)) h k (inside-entry (r .m))))
+    (go (ℕ-discrete y to) (ℕ-discrete x (r .me)))
   where
     go : Dec (y ≡ to) → Dec (x ≡ r .me) → clear (r .me) to (entry (r .m)) x y ≤ maxCount
     go (yes p) (yes q) = rw (p, q, clear-mine) b

@@ -75,25 +75,30 @@ merge-limit j m e k p q x y = go (ℕ-discrete y j)
     go (no a) = rw (merge-max j m e x y a) (omega (arith, p x y, q x y))
 
 -- the array after a merge has the merged matrix
-merged-back : (s : List ℕ) (j : ℕ) (m m₁ : List ℕ) → CheckedFrame s → m₁ ≡ flat (merge j (entry m) (decode s .entries)) → entry m₁ ≡ merge j (entry m) (decode s .entries)
+merged-back : (s : List ℕ) (j : ℕ) (m m₁ : List ℕ) → CheckedFrame s → m₁ ≡ flat (merge j (entry m) (decode s .entries))
+    → entry m₁ ≡ merge j (entry m) (decode s .entries)
 merged-back s j m m₁ c e =
     ap entry e ∙ entry-back (merge j (entry m) (decode s .entries)) (inside-merge j (entry m) (decode s .entries) (inside-entry m) (entries-inside s c))
 
-pub merged-limit : (s : List ℕ) (j : ℕ) (m m₁ : List ℕ) → CheckedFrame s → ((x y : ℕ) → entry m x y ≤ maxCount) → m₁ ≡ flat (merge j (entry m) (decode s .entries)) → (x y : ℕ) → entry m₁ x y ≤ maxCount
+pub merged-limit : (s : List ℕ) (j : ℕ) (m m₁ : List ℕ) → CheckedFrame s → ((x y : ℕ) → entry m x y ≤ maxCount)
+    → m₁ ≡ flat (merge j (entry m) (decode s .entries)) → (x y : ℕ) → entry m₁ x y ≤ maxCount
 merged-limit s j m m₁ c h e x y =
     rw (merged-back s j m m₁ c e) (merge-limit j (entry m) (decode s .entries) maxCount h (entries-limit s c) x y)
 
 -- what is learned of a frame: of an extra one nothing, of a user one by merge and trim
 abbrev pub Learned : Trimmed → List ℕ → List ℕ → List ℕ → ℕ → ℕ → Type 0
-Learned t m out out₁ at extras = (m ≡ flat (t .matrix)) × (out₁ ≡ put out 0 (framesOf (t .extras))) × (at ≡ length (framesOf (t .extras))) × (extras ≡ length (t .extras))
+Learned t m out out₁ at extras =
+    (m ≡ flat (t .matrix)) × (out₁ ≡ put out 0 (framesOf (t .extras))) × (at ≡ length (framesOf (t .extras))) × (extras ≡ length (t .extras))
 
 pub learn-extra : (kind me n cap : ℕ) (m out : List ℕ) (e : Matrix) → (kind ≡ 1 → ⊥) → length m ≡ 144
     → Learned (learn (kindOf kind) (nodeWith me n cap m [] []) e) m out out 0 0
 learn-extra kind me n cap m out e h l =
     rw (ne-eqb kind 1 h) (sym (flat-back m l), rw frames-nil (sym (put-nil out 0)), rw frames-nil refl, refl)
 
-pub learn-user : (s : List ℕ) (kind me n cap : ℕ) (m m₁ m₂ out out₁ : List ℕ) (at extras : ℕ) → CheckedFrame s → kind ≡ 1 → m₁ ≡ flat (merge me (entry m) (decode s .entries))
-    → (let t : Trimmed = trimFor 12 me n cap (entry m₁) in (m₂ ≡ flat (t .matrix)) × (out₁ ≡ put out 0 (framesOf (t .extras))) × (at ≡ 0 + length (framesOf (t .extras))) × (extras ≡ length (t .extras)))
+pub learn-user : (s : List ℕ) (kind me n cap : ℕ) (m m₁ m₂ out out₁ : List ℕ) (at extras : ℕ) → CheckedFrame s → kind ≡ 1
+    → m₁ ≡ flat (merge me (entry m) (decode s .entries))
+    → (let t : Trimmed = trimFor 12 me n cap (entry m₁) in
+    (m₂ ≡ flat (t .matrix)) × (out₁ ≡ put out 0 (framesOf (t .extras))) × (at ≡ 0 + length (framesOf (t .extras))) × (extras ≡ length (t .extras)))
     → Learned (learn (kindOf kind) (nodeWith me n cap m [] []) (decode s .entries)) m₂ out out₁ at extras
 learn-user s kind me n cap m m₁ m₂ out out₁ at extras c k e w =
     rw (eq-eqb kind 1 k, ← merged-back s me m m₁ c e) (w .0, w .1, omega (arith, w .2), w .3)
@@ -101,8 +106,10 @@ learn-user s kind me n cap m m₁ m₂ out out₁ at extras c k e w =
 -- one more count
 pub count-up : (v : List ℕ) (from : ℕ) → length v ≡ 12 → from < 12 → set v from (getD v from 0 + 1) ≡ listFrom 0 12 (countUp from (vector v))
 count-up v from l h =
-    ext-getD 0 (set v from (getD v from 0 + 1)) (listFrom 0 12 (countUp from (vector v))) (length-set v from (getD v from 0 + 1) ∙ l ∙ sym (length-list 0 12 (countUp from (vector v))))
-    (λ i k. let b : i < 12 = omega (arith, length-set v from (getD v from 0 + 1)) in go i (ℕ-discrete i from) ∙ sym (getD-list 0 12 (countUp from (vector v)) i b ∙ ap (countUp from (vector v)) (zero-add i)))
+    ext-getD 0 (set v from (getD v from 0 + 1)) (listFrom 0 12 (countUp from (vector v)))
+    (length-set v from (getD v from 0 + 1) ∙ l ∙ sym (length-list 0 12 (countUp from (vector v))))
+    (λ i k. let b : i < 12 = omega (arith, length-set v from (getD v from 0 + 1)) in
+    go i (ℕ-discrete i from) ∙ sym (getD-list 0 12 (countUp from (vector v)) i b ∙ ap (countUp from (vector v)) (zero-add i)))
   where
     go : (i : ℕ) → Dec (i ≡ from) → getD (set v from (getD v from 0 + 1)) i 0 ≡ countUp from (vector v) i
     go i (yes e) = rw (e, cond-same from (suc (getD v from 0)) (getD v from 0), getD-set-same v from (getD v from 0 + 1) 0 (omega arith)) (omega arith)
@@ -149,7 +156,15 @@ module _ (s : List ℕ) (h : Header) (me n cap : ℕ) (m : List ℕ) where
       → Learned (learn (kindOf (h .kind)) (nodeWith me n cap m [] []) (decode s .entries)) m₁ out out₁ at extras
       → body₁ ≡ put body 0 (take (8 + 6 * h .e + h .b - (8 + 6 * h .e)) (drop (8 + 6 * h .e) s))
       → (_≡_ {A = Delivered} (record { kind = h .kind; from = h .from; number = k; tried = tried; body = h .b; bytes = at; extras = extras })
-      (record { kind = kindByte (decode s .kind); from = decode s .from; number = number (decode s); tried = tried; body = length (decode s .body); bytes = length (framesOf (t .extras)); extras = length (t .extras) }))
+      (record {
+        kind = kindByte (decode s .kind);
+        from = decode s .from;
+        number = number (decode s);
+        tried = tried;
+        body = length (decode s .body);
+        bytes = length (framesOf (t .extras));
+        extras = length (t .extras);
+      }))
       × (m₁ ≡ flat (t .matrix)) × (out₁ ≡ put out 0 (framesOf (t .extras))) × (body₁ ≡ put body 0 (decode s .body))
   unfolding decode
   taken-in m₁ out out₁ body body₁ tried k at extras c e q w b =

@@ -82,7 +82,8 @@ module _ (r : Record) (to : ℕ) (body out : List ℕ) where
           let first : Message = userMessage (r .me) to (r .n) (r .cap) m body in
           let others : List Message = trimFor 12 (r .me) (r .n) (r .cap) (clear (r .me) to m) .extras in
           let k = sendable r to (length body) (length out) z in
-          let most : length (framesOf (first ∷ others)) ≤ 1810 = omega (arith, length-frames first others, length-encode first, frame-room k, k .short, trim-1008 (r .me) (r .n) (r .cap) (clear (r .me) to m)) in
+          let most : length (framesOf (first ∷ others)) ≤ 1810
+          = omega (arith, length-frames first others, length-encode first, frame-room k, k .short, trim-1008 (r .me) (r .n) (r .cap) (clear (r .me) to m)) in
           subst sent (send-accepted r to body out z)
           record {
             issued = first ∷ others;
@@ -159,7 +160,11 @@ module _ (r : Record) (q out body : List ℕ) where
     where
       go : Dec (placeOf (searched r q) ≡ 0) → by (searched r q)
       go (yes p) =
-          subst by (sym (found-none (deliverable (nodeAt r q)) (heldMessages (r .held) q) p)) (omega (arith, length-messages (r .held) q, k .sound .room), refl, refl)
+          subst by (sym (found-none (deliverable (nodeAt r q)) (heldMessages (r .held) q) p)) (
+            omega (arith, length-messages (r .held) q, k .sound .room),
+            refl,
+            refl,
+          )
       go (no p) =
           let j : ℕ = placeOf (searched r q) - 1 in
           let x = found-held (deliverable (nodeAt r q)) (r .held) q j (omega arith) in

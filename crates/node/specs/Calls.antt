@@ -125,7 +125,15 @@ acceptDeliver r q out body o (some a) =
     let text : List ℕ = bodyOf (o .answer) in
     afterDeliver
     (record {
-      answer = deliverAnswer.Frame (record { kind = kindByte (a .kind); from = a .from; number = a .number; tried = triedBy (o .answer); body = length text; bytes = length bytes; extras = length (issued (o .answer)) });
+      answer = deliverAnswer.Frame (record {
+        kind = kindByte (a .kind);
+        from = a .from;
+        number = a .number;
+        tried = triedBy (o .answer);
+        body = length text;
+        bytes = length bytes;
+        extras = length (issued (o .answer));
+      });
       node = record { me = r .me; n = r .n; cap = r .cap; m = flat (o .node .matrix); deliv = listFrom 0 12 (o .node .deliv); held = length (o .node .held) };
     })
     (laid (without (triedBy (o .answer) - 1) (heldFrames (r .held) q)))

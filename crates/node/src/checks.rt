@@ -16,7 +16,8 @@ pub fn record_refusal<'a>(
     short: bool,
 ) -> u8
     requires { ⌜ (length (now m) ≡ 144) × (length (now deliv) ≡ 12) ⌝ }
-    ensures { λ r. ⌜ r ≡ recordRefusal (record { me = me; n = n; cap = cap; m = now (m .entry); deliv = now (deliv .entry); held = held }) (now (queue .entry)) short 0 ⌝ }
+    ensures { λ r.
+        ⌜ r ≡ recordRefusal (record { me = me; n = n; cap = cap; m = now (m .entry); deliv = now (deliv .entry); held = held }) (now (queue .entry)) short 0 ⌝ }
 {
     if rules::broken(me, n, cap, m, deliv, held) {
         return 2;

@@ -46,7 +46,8 @@ fn refusal<'a>(
     short: bool,
 ) -> u8
     requires { ⌜ (length (now m) ≡ 144) × (length (now deliv) ≡ 12) ⌝ }
-    ensures { λ r. ⌜ r ≡ deliverRefusal (record { me = me; n = n; cap = cap; m = now (m .entry); deliv = now (deliv .entry); held = held }) (now (queue .entry)) short ⌝ }
+    ensures { λ r.
+        ⌜ r ≡ deliverRefusal (record { me = me; n = n; cap = cap; m = now (m .entry); deliv = now (deliv .entry); held = held }) (now (queue .entry)) short ⌝ }
 {
     let why = record_refusal(me, n, cap, m, deliv, held, queue, short);
     if why != 0 {
@@ -61,7 +62,9 @@ fn refusal<'a>(
 // Takes in the entries of a delivered frame: those of a user frame are merged and the matrix is trimmed; an extra frame changes nothing.
 fn learn(m: &mut [u32; 144], out: &mut [u8], s: &[u8], kind: u8, me: u8, n: u8, cap: u8) -> Issued
     requires { ⌜ (length (now m) ≡ 144) × CheckedFrame (now s) × (me < 12) × (1008 ≤ length (now out)) × ((x y : ℕ) → entry (now m) x y ≤ maxCount) ⌝ }
-    ensures { λ r. ⌜ (let t : Trimmed = learn (kindOf kind) (nodeWith me n cap (now (m .entry)) [] []) (decode (now (s .entry)) .entries) in (now (m .exit) ≡ flat (t .matrix)) × (now (out .exit) ≡ put (now (out .entry)) 0 (framesOf (t .extras))) × (r .at ≡ length (framesOf (t .extras))) × (r .extras ≡ length (t .extras))) ⌝ }
+    ensures { λ r. ⌜ (let t : Trimmed = learn (kindOf kind) (nodeWith me n cap (now (m .entry)) [] []) (decode (now (s .entry)) .entries) in
+        (now (m .exit) ≡ flat (t .matrix)) × (now (out .exit) ≡ put (now (out .entry)) 0 (framesOf (t .extras)))
+        × (r .at ≡ length (framesOf (t .extras))) × (r .extras ≡ length (t .extras))) ⌝ }
 {
     if kind != 1 {
         return Issued { at: 0, extras: 0 };
@@ -89,8 +92,20 @@ fn take_in(
     n: u8,
     cap: u8,
 ) -> Delivered
-    requires { ⌜ (length (now m) ≡ 144) × CheckedFrame (now s) × (me < 12) × (1008 ≤ length (now out)) × ((x y : ℕ) → entry (now m) x y ≤ maxCount) × (maxBody ≤ length (now body)) ⌝ }
-    ensures { λ r. ⌜ (let g : Message = decode (now (s .entry)) in let t : Trimmed = learn (g .kind) (nodeWith me n cap (now (m .entry)) [] []) (g .entries) in (r ≡ record { kind = kindByte (g .kind); from = g .from; number = number g; tried = tried; body = length (g .body); bytes = length (framesOf (t .extras)); extras = length (t .extras) }) × (now (m .exit) ≡ flat (t .matrix)) × (now (out .exit) ≡ put (now (out .entry)) 0 (framesOf (t .extras))) × (now (body .exit) ≡ put (now (body .entry)) 0 (g .body))) ⌝ }
+    requires { ⌜ (length (now m) ≡ 144) × CheckedFrame (now s) × (me < 12) × (1008 ≤ length (now out))
+        × ((x y : ℕ) → entry (now m) x y ≤ maxCount) × (maxBody ≤ length (now body)) ⌝ }
+    ensures { λ r. ⌜ (let g : Message = decode (now (s .entry)) in
+        let t : Trimmed = learn (g .kind) (nodeWith me n cap (now (m .entry)) [] []) (g .entries) in
+        (r ≡ record {
+          kind = kindByte (g .kind);
+          from = g .from;
+          number = number g;
+          tried = tried;
+          body = length (g .body);
+          bytes = length (framesOf (t .extras));
+          extras = length (t .extras);
+        }) × (now (m .exit) ≡ flat (t .matrix)) × (now (out .exit) ≡ put (now (out .entry)) 0 (framesOf (t .extras)))
+        × (now (body .exit) ≡ put (now (body .entry)) 0 (g .body))) ⌝ }
 {
     let h = frame::header::read(s);
     let a = 8 + 6 * (h.e as usize);
@@ -110,9 +125,11 @@ fn take_in(
 }
 
 impl Node {
-    /// Delivers the first held frame that is deliverable: takes it out of the queue, writes its body into `body` and trim's extra frames into `out`, and gives the new record.
+    /// Delivers the first held frame that is deliverable:
+    /// takes it out of the queue, writes its body into `body` and trim's extra frames into `out`, and gives the new record.
     pub fn deliver(mut self, queue: &mut [u8], out: &mut [u8], body: &mut [u8]) -> Delivery
-        ensures { λ r. ⌜ afterDeliver r (now (queue .exit)) (now (out .exit)) (now (body .exit)) ≡ deliverCall self (now (queue .entry)) (now (out .entry)) (now (body .entry)) ⌝ }
+        ensures { λ r. ⌜ afterDeliver r (now (queue .exit)) (now (out .exit)) (now (body .exit))
+            ≡ deliverCall self (now (queue .entry)) (now (out .entry)) (now (body .entry)) ⌝ }
     {
         let me = self.me;
         let n = self.n;

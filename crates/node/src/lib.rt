@@ -74,7 +74,8 @@ pub struct Offered {
     pub node: Node,
 }
 
-/// A delivery: the frame's kind (1 user, 2 extra), from and number; how many held frames were tried (document 01: looked); the body's bytes; and the bytes and extra frames issued.
+/// A delivery: the frame's kind (1 user, 2 extra), from and number;
+/// how many held frames were tried (document 01: looked); the body's bytes; and the bytes and extra frames issued.
 pub struct Delivered {
     pub kind: u8,
     pub from: u8,

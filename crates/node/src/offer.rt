@@ -35,7 +35,8 @@ fn hold_refusal<'a>(
     frame: &[u8],
 ) -> Verdict
     requires { ⌜ CheckedQueue held (now queue) × CheckedFrame (now frame) ⌝ }
-    ensures { λ r. ⌜ ((n cap : ℕ) → (let d : State = nodeWith me n cap (now (m .entry)) (now (deliv .entry)) (heldMessages held (now (queue .entry))) in (r .why ≡ holdRefusal d (decode (now (frame .entry)))) × (r .why ≡ 0 → r .ready ≡ deliverable d (decode (now (frame .entry)))))) ⌝ }
+    ensures { λ r. ⌜ ((n cap : ℕ) → (let d : State = nodeWith me n cap (now (m .entry)) (now (deliv .entry)) (heldMessages held (now (queue .entry))) in
+        (r .why ≡ holdRefusal d (decode (now (frame .entry)))) × (r .why ≡ 0 → r .ready ≡ deliverable d (decode (now (frame .entry)))))) ⌝ }
 {
     let why = arrival::refusal(frame, me, m, deliv);
     if why != 0 {

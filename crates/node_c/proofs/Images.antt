@@ -25,7 +25,13 @@ module _ (r : Record) (cells : length (r .m) ≡ 144) (senders : length (r .deli
   length-image : length (image r) ≡ imageSize
   unfolding image
   length-image =
-      omega (arith, length-append (fields (r .m)) (fields (r .deliv) ++ (r .held ∷ [])), length-append (fields (r .deliv)) (r .held ∷ []), length-fields (r .m), length-fields (r .deliv))
+      omega (
+        arith,
+        length-append (fields (r .m)) (fields (r .deliv) ++ (r .held ∷ [])),
+        length-append (fields (r .deliv)) (r .held ∷ []),
+        length-fields (r .m),
+        length-fields (r .deliv),
+      )
 
   module _ (s : List ℕ) (size : length s ≡ imageSize) where
     whole : put s 0 (image r) ≡ image r
@@ -83,8 +89,16 @@ module _ (r : Record) (h : FitsImage r) where
   unfolding image
   held-back =
       let p : List ℕ = r .me ∷ r .n ∷ r .cap ∷ (fields (r .m) ++ fields (r .deliv)) in
-      let e : image r ≡ p ++ (r .held ∷ []) = ap (λ (x : List ℕ). r .me ∷ r .n ∷ r .cap ∷ x) (sym (append-assoc (fields (r .m)) (fields (r .deliv)) (r .held ∷ []))) in
-      let k : length p ≡ 627 = omega (arith, length-append (fields (r .m)) (fields (r .deliv)), length-fields (r .m), length-fields (r .deliv), h .cells, h .senders) in
+      let e : image r ≡ p ++ (r .held ∷ [])
+      = ap (λ (x : List ℕ). r .me ∷ r .n ∷ r .cap ∷ x) (sym (append-assoc (fields (r .m)) (fields (r .deliv)) (r .held ∷ []))) in
+      let k : length p ≡ 627 = omega (
+        arith,
+        length-append (fields (r .m)) (fields (r .deliv)),
+        length-fields (r .m),
+        length-fields (r .deliv),
+        h .cells,
+        h .senders,
+      ) in
       ap (λ (x : List ℕ). getD x 627 0) e ∙ getD-at p (r .held) [] 0 627 k
 
   record-back : recordIn (image r) ≡ r
@@ -122,8 +136,10 @@ module _ (s : List ℕ) (b : AllBytes s) where
   image-back h =
       let end : drop 628 s ≡ [] = drop-of-length-le s {i = 628} (omega arith) in
       let last : drop 627 s ≡ getD s 627 0 ∷ [] = rest s 627 (omega arith) ∙ ap (λ (x : List ℕ). getD s 627 0 ∷ x) end in
-      let vector : drop 579 s ≡ fields (numbersAt s 579 12) ++ (getD s 627 0 ∷ []) = rest-numbers 12 579 (omega arith) ∙ ap (λ (x : List ℕ). fields (numbersAt s 579 12) ++ x) last in
-      let matrix : drop 3 s ≡ fields (numbersAt s 3 144) ++ (fields (numbersAt s 579 12) ++ (getD s 627 0 ∷ [])) = rest-numbers 144 3 (omega arith) ∙ ap (λ (x : List ℕ). fields (numbersAt s 3 144) ++ x) vector in
+      let vector : drop 579 s ≡ fields (numbersAt s 579 12) ++ (getD s 627 0 ∷ []) = rest-numbers 12 579 (omega arith)
+      ∙ ap (λ (x : List ℕ). fields (numbersAt s 579 12) ++ x) last in
+      let matrix : drop 3 s ≡ fields (numbersAt s 3 144) ++ (fields (numbersAt s 579 12) ++ (getD s 627 0 ∷ [])) = rest-numbers 144 3 (omega arith)
+      ∙ ap (λ (x : List ℕ). fields (numbersAt s 3 144) ++ x) vector in
       sym
       (rest s 0 (omega arith)
       ∙ ap (λ (x : List ℕ). getD s 0 0 ∷ x) (rest s 1 (omega arith)

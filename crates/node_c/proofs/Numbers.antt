@@ -38,7 +38,8 @@ pub record ReadTo (s : List ℕ) (at : ℕ) (a₀ a : List ℕ) (k : ℕ) : Type
 pub read-start : (s : List ℕ) (at : ℕ) (a : List ℕ) → ReadTo s at a a 0
 read-start s at a = record { few = omega arith; same = refl; read = λ i h. absurd (omega arith) }
 
-pub read-turn : (s : List ℕ) (at : ℕ) (a₀ a : List ℕ) (k v : ℕ) → ReadTo s at a₀ a k → k < length a → v ≡ u32At s (at + 4 * k) → ReadTo s at a₀ (set a k v) (k + 1)
+pub read-turn : (s : List ℕ) (at : ℕ) (a₀ a : List ℕ) (k v : ℕ) → ReadTo s at a₀ a k → k < length a
+    → v ≡ u32At s (at + 4 * k) → ReadTo s at a₀ (set a k v) (k + 1)
 read-turn s at a₀ a k v r h e =
     record {
       few = omega (arith, r .same);

@@ -1,4 +1,5 @@
-//! The node's calls for programs in Rust and C: the record is an image of 628 lent bytes, and each call returns 0 or its refusal and writes the values of its answer into lent numbers. The functions only take the image apart, call the node, and put the record back.
+//! The node's calls for programs in Rust and C: the record is an image of 628 lent bytes, and each call returns 0 or its refusal and writes the values of its
+//! answer into lent numbers. The functions only take the image apart, call the node, and put the record back.
 mod image;
 
 use node::DeliverAnswer;
@@ -33,7 +34,8 @@ pub extern "C" fn node_send(
     out: &mut [u8],
     values: &mut [u32; 2],
 ) -> u8
-    ensures { λ r. ⌜ sendLeft r (now (image .exit)) (now (out .exit)) (now (values .exit)) ≡ exportedSend (now (image .entry)) to (now (body .entry)) (now (out .entry)) (now (values .entry)) ⌝ }
+    ensures { λ r. ⌜ sendLeft r (now (image .exit)) (now (out .exit)) (now (values .exit))
+        ≡ exportedSend (now (image .entry)) to (now (body .entry)) (now (out .entry)) (now (values .entry)) ⌝ }
 {
     let state = image::load(image);
     let sent = state.send(to, body, out);
@@ -57,7 +59,8 @@ pub extern "C" fn node_offer(
     queue: &mut [u8],
     values: &mut [u32; 2],
 ) -> u8
-    ensures { λ r. ⌜ offerLeft r (now (image .exit)) (now (queue .exit)) (now (values .exit)) ≡ exportedOffer (now (image .entry)) (now (frame .entry)) (now (queue .entry)) (now (values .entry)) ⌝ }
+    ensures { λ r. ⌜ offerLeft r (now (image .exit)) (now (queue .exit)) (now (values .exit))
+        ≡ exportedOffer (now (image .entry)) (now (frame .entry)) (now (queue .entry)) (now (values .entry)) ⌝ }
 {
     let state = image::load(image);
     let offered = state.offer(frame, queue);
@@ -82,7 +85,8 @@ pub extern "C" fn node_deliver(
     body: &mut [u8],
     values: &mut [u32; 7],
 ) -> u8
-    ensures { λ r. ⌜ deliverLeft r (now (image .exit)) (now (queue .exit)) (now (out .exit)) (now (body .exit)) (now (values .exit)) ≡ exportedDeliver (now (image .entry)) (now (queue .entry)) (now (out .entry)) (now (body .entry)) (now (values .entry)) ⌝ }
+    ensures { λ r. ⌜ deliverLeft r (now (image .exit)) (now (queue .exit)) (now (out .exit)) (now (body .exit)) (now (values .exit))
+        ≡ exportedDeliver (now (image .entry)) (now (queue .entry)) (now (out .entry)) (now (body .entry)) (now (values .entry)) ⌝ }
 {
     let state = image::load(image);
     let done = state.deliver(queue, out, body);

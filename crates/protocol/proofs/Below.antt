@@ -64,7 +64,8 @@ pub countUp-le : (i : ℕ) (v : ℕ → ℕ) (x : ℕ) → v x ≤ countUp i v x
 countUp-le i v x = cond-elim (λ (z : ℕ). v x ≤ z) (eqb x i) (suc (v x)) (v x) (λ _. omega arith) (λ _. omega arith)
 
 -- how often node j has answered so, with one more step
-pub answers-snoc : (f : Answer → ℕ) (j : ℕ) (l : List Event) (e : Event) → answersAt f j (l ++ (e ∷ [])) ≡ answersAt f j l + cond (eqb (e .node) j) (f (e .answer)) 0
+pub answers-snoc : (f : Answer → ℕ) (j : ℕ) (l : List Event) (e : Event)
+    → answersAt f j (l ++ (e ∷ [])) ≡ answersAt f j l + cond (eqb (e .node) j) (f (e .answer)) 0
 answers-snoc f j [] e = omega arith
 answers-snoc f j (x ∷ l) e = omega (arith, answers-snoc f j l e)
 

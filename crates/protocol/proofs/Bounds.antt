@@ -21,7 +21,8 @@ use Rattle.wire.specs.Limits.{maxCount}
 -- what an entry counts, its row's node has issued
 pub issued-bound : (w : State) → Invariant w → (x y k : ℕ) → IssuedAs (w .log) x y k → k ≤ w .matrix x x y
 issued-bound w v x y k s =
-    let b : k ≤ w .matrix (s .issue .message .from) (s .issue .message .from) (s .issue .message .to) = rw (s .number) at (v .numbered (s .place) (s .issue) (s .at)) in
+    let b : k ≤ w .matrix (s .issue .message .from) (s .issue .message .from) (s .issue .message .to)
+    = rw (s .number) at (v .numbered (s .place) (s .issue) (s .at)) in
     rw (s .from, s .to) at b
 
 -- no carried entry exceeds what its row's node has issued
@@ -41,9 +42,11 @@ matrix-bound w v i x y = go (w .matrix i x y) refl
     go (suc k) e = omega (arith, issued-bound w v x y (suc k) (v .kept i x y k e))
 
 -- an issued message claims no more of a node's row than stands there: refusal 13 is never met
-pub claims-little : (n : ℕ) (caps : ℕ → ℕ) (w : World) → Good n caps w → (p : ℕ) (f : Issue) → IssueAt w p f → (i : ℕ) → T (not (claimsTooMuch (nodeAt n caps w i) (f .message)))
+pub claims-little : (n : ℕ) (caps : ℕ → ℕ) (w : World) → Good n caps w → (p : ℕ) (f : Issue) → IssueAt w p f → (i : ℕ)
+    → T (not (claimsTooMuch (nodeAt n caps w i) (f .message)))
 claims-little n caps w g p f at i =
-    none-some 12 (λ y. ltb (w .nodes i .matrix i y) (f .message .entries i y)) (λ y _. le→nltb (w .nodes i .matrix i y) (f .message .entries i y) (entry-bound (stateOf w) (g .invariant) p f at i y))
+    none-some 12 (λ y. ltb (w .nodes i .matrix i y) (f .message .entries i y))
+    (λ y _. le→nltb (w .nodes i .matrix i y) (f .message .entries i y) (entry-bound (stateOf w) (g .invariant) p f at i y))
 
 module _ (n : ℕ) (caps : ℕ → ℕ) (w : World) (g : Good n caps w) (few : length (w .history) < 1000000000) where
   -- no entry of a node's own row comes to the limit
@@ -64,7 +67,8 @@ module _ (n : ℕ) (caps : ℕ → ℕ) (w : World) (g : Good n caps w) (few : l
   below-limit i =
       not-or (someBelow 12 (λ y. eqb (w .nodes i .matrix i y) maxCount)) (someBelow 12 (λ x. eqb (w .nodes i .deliv x) maxCount))
       (none-some 12 (λ y. eqb (w .nodes i .matrix i y) maxCount) (λ y h. ne→neqb (w .nodes i .matrix i y) maxCount (λ e. omega (arith, row-below i y))))
-      (none-some 12 (λ x. eqb (w .nodes i .deliv x) maxCount) (λ x h. ne→neqb (w .nodes i .deliv x) maxCount (λ e. omega (arith, row-below x i, g .invariant .delivBound i x))))
+      (none-some 12 (λ x. eqb (w .nodes i .deliv x) maxCount)
+      (λ x h. ne→neqb (w .nodes i .deliv x) maxCount (λ e. omega (arith, row-below x i, g .invariant .delivBound i x))))
 
   -- an issued message whose body is of bytes is sound
   pub issue-sound : (p : ℕ) (f : Issue) → IssueAt w p f → AllBytes (f .message .body) → Sound (f .message)

@@ -91,7 +91,8 @@ module _ (w : State) (v : Invariant w) (f : Issue) (e : Event) (M′ : ℕ → M
   split : (p : ℕ) (g : Issue) → At w p g → Past w′ g → Past w g ⊎ (g ≡ f)
   split p g a d = go (deliv-case (g .message .to) (g .message .from)) (ℕ-discrete (number (g .message)) (number (f .message)))
     where
-      go : (D′ (g .message .to) (g .message .from) ≡ w .deliv (g .message .to) (g .message .from)) ⊎ ((g .message .to ≡ here) × (g .message .from ≡ sender)) → Dec (number (g .message) ≡ number (f .message)) → Past w g ⊎ (g ≡ f)
+      go : (D′ (g .message .to) (g .message .from) ≡ w .deliv (g .message .to) (g .message .from)) ⊎ ((g .message .to ≡ here) × (g .message .from ≡ sender))
+          → Dec (number (g .message) ≡ number (f .message)) → Past w g ⊎ (g ≡ f)
       go (inl x) y = inl (omega arith)
       go (inr x) (yes y) = inr (itself p g a (x .0) (x .1) y)
       go (inr x) (no y) =
@@ -151,17 +152,20 @@ module _ (w : State) (v : Invariant w) (f : Issue) (e : Event) (M′ : ℕ → M
           rw (q, n) (omega (arith, s .counts, next))
 
   -- no two steps deliver the same
-  once′ : (t u : ℕ) (x y : Event) (k l : Label) → getElem? (w′ .history) t ≡ some x → getElem? (w′ .history) u ≡ some y → delivery (x .answer) ≡ some k → delivery (y .answer) ≡ some l
+  once′ : (t u : ℕ) (x y : Event) (k l : Label) → getElem? (w′ .history) t ≡ some x → getElem? (w′ .history) u ≡ some y
+      → delivery (x .answer) ≡ some k → delivery (y .answer) ≡ some l
       → x .node ≡ y .node → k .from ≡ l .from → k .number ≡ l .number → t ≡ u
   once′ t u x y k l a b g h n i j = go (at-snoc (w .history) e t x a) (at-snoc (w .history) e u y b)
     where
       -- an old delivery is none of f
-      clash : (t : ℕ) (x : Event) (k l : Label) (y : Event) → getElem? (w .history) t ≡ some x → delivery (x .answer) ≡ some k → y ≡ e → delivery (y .answer) ≡ some l → x .node ≡ y .node → k .from ≡ l .from → k .number ≡ l .number → ⊥
+      clash : (t : ℕ) (x : Event) (k l : Label) (y : Event) → getElem? (w .history) t ≡ some x → delivery (x .answer) ≡ some k → y ≡ e
+          → delivery (y .answer) ≡ some l → x .node ≡ y .node → k .from ≡ l .from → k .number ≡ l .number → ⊥
       clash t x k l y a g c h n i j =
           let q : l ≡ label (f .message) = cc (s .names) in
           let m : x .node ≡ here = cc (s .node) in
           let o : k .from ≡ sender = i ∙ ap (λ (z : Label). z .from) q in
-          let r : k .number ≤ w .deliv here sender = subst (λ (z : ℕ). k .number ≤ w .deliv here z) o (subst (λ (z : ℕ). k .number ≤ w .deliv z (k .from)) m (v .told t x k a g)) in
+          let r : k .number ≤ w .deliv here sender
+          = subst (λ (z : ℕ). k .number ≤ w .deliv here z) o (subst (λ (z : ℕ). k .number ≤ w .deliv z (k .from)) m (v .told t x k a g)) in
           let z : k .number ≡ number (f .message) = j ∙ ap (λ (z : Label). z .number) q in
           omega (arith, next)
 
@@ -192,7 +196,9 @@ module _ (w : State) (v : Invariant w) (f : Issue) (e : Event) (M′ : ℕ → M
           → Accounted w′ m (λ y. M′ i y (m .message .to))
       away q uf before (yes d) c = inl (past-grow m (past-delivered p m a u uf d before))
       away q uf before (no d) (inl h) = inl (past-grow m h)
-      away q uf before (no d) (inr c) = inr (covers-more (w .log) m (λ y. f .message .entries y (m .message .to)) (λ y. M′ i y (m .message .to)) (λ y. rw q (s .merged uf y (m .message .to) d)) c)
+      away q uf before (no d) (inr c) =
+          inr (covers-more (w .log) m (λ y. f .message .entries y (m .message .to)) (λ y. M′ i y (m .message .to))
+          (λ y. rw q (s .merged uf y (m .message .to) d)) c)
 
       msg : (i ≡ here) → IsUser f → UpTo w (m .step) (f .step) → Accounted w′ m (λ y. M′ i y (m .message .to))
       msg q uf (inl h) =
@@ -215,7 +221,8 @@ module _ (w : State) (v : Invariant w) (f : Issue) (e : Event) (M′ : ℕ → M
       go (inr h) (inr q) = last (h .1) (before-last w v e (m .step) b q (h .0))
 
   -- what a message carries covers its past still
-  messageCovers′ : (p q : ℕ) (m g : Issue) → At w p m → At w q g → IsUser m → IsUser g → Before w′ (m .step) (g .step) → Accounted w′ m (λ x. g .message .entries x (m .message .to))
+  messageCovers′ : (p q : ℕ) (m g : Issue) → At w p m → At w q g → IsUser m → IsUser g → Before w′ (m .step) (g .step)
+      → Accounted w′ m (λ x. g .message .entries x (m .message .to))
   messageCovers′ p q m g a b um ug before = go (v .messageCovers p q m g a b um ug (before-old w v e (m .step) (g .step) before (v .early q g b ug)))
     where
       go : Accounted w m (λ x. g .message .entries x (m .message .to)) → Accounted w′ m (λ x. g .message .entries x (m .message .to))

@@ -13,10 +13,13 @@ use Rattle.protocol.specs.Demand3.{Demand3For, Demand3}
 use Rattle.protocol.specs.World.{Step, World, start, run}
 
 -- for any caps in range, one for each node
-pub demand3-caps : (n : ℕ) (caps : ℕ → ℕ) → ((k : ℕ) → k < n → InRange n (caps k)) → (steps : List Step) → length steps < 1000000000 → Demand3For n caps (run n (start n caps) steps)
+pub demand3-caps : (n : ℕ) (caps : ℕ → ℕ) → ((k : ℕ) → k < n → InRange n (caps k)) → (steps : List Step) → length steps < 1000000000
+    → Demand3For n caps (run n (start n caps) steps)
 demand3-caps n caps range steps few = record {
   causal = g .invariant .causal;
-  once = λ p t u f a x y. g .invariant .once t u (x .event) (y .event) (label (f .message)) (label (f .message)) (x .at) (y .at) (x .names) (y .names) (x .here ∙ sym (y .here)) refl refl;
+  once =
+      λ p t u f a x y. g .invariant .once t u (x .event) (y .event) (label (f .message)) (label (f .message)) (x .at) (y .at) (x .names)
+      (y .names) (x .here ∙ sym (y .here)) refl refl;
   distinct = g .invariant .distinct;
   kept = λ i h. g .node i h .few;
   carried = λ p f a. g .sound p f a .few;

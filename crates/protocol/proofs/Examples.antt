@@ -70,11 +70,13 @@ report = 114 ∷ 101 ∷ 112 ∷ 111 ∷ 114 ∷ 116 ∷ []
 story : World
 story =
     run 3 (start 3 (λ i. 3))
-    (sends 0 2 closing ∷ sends 0 1 closed ∷ offers 1 1 ∷ delivers 1 ∷ sends 1 2 report ∷ offers 2 2 ∷ delivers 2 ∷ offers 2 0 ∷ delivers 2 ∷ delivers 2 ∷ delivers 2 ∷ [])
+    (sends 0 2 closing ∷ sends 0 1 closed ∷ offers 1 1 ∷ delivers 1 ∷ sends 1 2 report ∷ offers 2 2 ∷ delivers 2 ∷ offers 2 0
+    ∷ delivers 2 ∷ delivers 2 ∷ delivers 2 ∷ [])
 
 -- the report is offered first, waits, and is delivered after "closing"
 story-answers : answers story
-    ≡ issues 1 ∷ issues 1 ∷ holds 1 true ∷ gets user 0 1 1 closed 0 ∷ issues 1 ∷ holds 1 false ∷ waits 1 ∷ holds 2 true ∷ gets user 0 1 2 closing 0 ∷ gets user 1 1 1 report 0 ∷ waits 0 ∷ []
+    ≡ issues 1 ∷ issues 1 ∷ holds 1 true ∷ gets user 0 1 1 closed 0 ∷ issues 1 ∷ holds 1 false ∷ waits 1 ∷ holds 2 true ∷ gets user 0 1 2 closing 0
+    ∷ gets user 1 1 1 report 0 ∷ waits 0 ∷ []
 unfolding story step send offer deliver atLimit deliverable trimFor fullest count columnCount clear only merge
 story-answers = refl
 
@@ -92,7 +94,8 @@ story-before : HappenedBefore (story .log) (story .history) 0 4
 unfolding story step send offer deliver atLimit deliverable trimFor fullest count columnCount clear only merge
 story-before =
     chain 0 1 4 (sameNode 0 1 (at 0) (at 1) (omega arith) refl refl refl refl refl)
-    (chain 1 3 4 (message 1 3 1 (issue 1) refl refl refl (record { event = at 3; at = refl; here = refl; names = refl })) (sameNode 3 4 (at 3) (at 4) (omega arith) refl refl refl refl refl))
+    (chain 1 3 4 (message 1 3 1 (issue 1) refl refl refl (record { event = at 3; at = refl; here = refl; names = refl }))
+    (sameNode 3 4 (at 3) (at 4) (omega arith) refl refl refl refl refl))
   where
     at : ℕ → Event
     at t = getD (story .history) t (record { node = 0; step = delivers 0; answer = nothing 0 })
@@ -127,17 +130,20 @@ extra-delivered : World
 extra-delivered = run 3 tie (offers 1 6 ∷ delivers 1 ∷ offers 1 0 ∷ offers 1 4 ∷ delivers 1 ∷ delivers 1 ∷ delivers 1 ∷ sends 0 1 [] ∷ [])
 
 -- it waits until both messages that it counts are delivered
-extra-answers : drop 10 (answers extra-delivered) ≡ holds 1 false ∷ waits 1 ∷ holds 2 true ∷ holds 3 true ∷ gets user 0 1 2 [] 0 ∷ gets user 2 1 2 [] 0 ∷ gets extra 0 2 1 [] 0 ∷ issues 1 ∷ []
+extra-answers : drop 10 (answers extra-delivered)
+    ≡ holds 1 false ∷ waits 1 ∷ holds 2 true ∷ holds 3 true ∷ gets user 0 1 2 [] 0 ∷ gets user 2 1 2 [] 0 ∷ gets extra 0 2 1 [] 0 ∷ issues 1 ∷ []
 unfolding extra-delivered tie step send offer deliver atLimit deliverable trimFor fullest count columnCount clear only merge
 extra-answers = refl
 
 -- node 1 afterwards: its matrix, and its vector
-extra-node : corner (extra-delivered .nodes 1 .matrix) ++ map (extra-delivered .nodes 1 .deliv) (0 ∷ 1 ∷ 2 ∷ []) ≡ 0 ∷ 0 ∷ 0 ∷ 1 ∷ 0 ∷ 1 ∷ 0 ∷ 0 ∷ 0 ∷ 2 ∷ 0 ∷ 1 ∷ []
+extra-node : corner (extra-delivered .nodes 1 .matrix) ++ map (extra-delivered .nodes 1 .deliv) (0 ∷ 1 ∷ 2 ∷ [])
+    ≡ 0 ∷ 0 ∷ 0 ∷ 1 ∷ 0 ∷ 1 ∷ 0 ∷ 0 ∷ 0 ∷ 2 ∷ 0 ∷ 1 ∷ []
 unfolding extra-delivered tie step send offer deliver atLimit deliverable trimFor fullest count columnCount clear only merge
 extra-node = refl
 
 -- the column of a sent message's destination is cleared behind it, but for the sender's count
-extra-next : map shown (drop 7 (extra-delivered .log)) ≡ record { kind = user; from = 0; to = 1; number = 3; entries = 0 ∷ 2 ∷ 1 ∷ 0 ∷ 0 ∷ 1 ∷ 0 ∷ 0 ∷ 0 ∷ [] } ∷ []
+extra-next : map shown (drop 7 (extra-delivered .log))
+    ≡ record { kind = user; from = 0; to = 1; number = 3; entries = 0 ∷ 2 ∷ 1 ∷ 0 ∷ 0 ∷ 1 ∷ 0 ∷ 0 ∷ 0 ∷ [] } ∷ []
 unfolding extra-delivered tie step send offer deliver atLimit deliverable trimFor fullest count columnCount clear only merge
 extra-next = refl
 
@@ -150,7 +156,8 @@ send-clears = refl
 opposite : World
 opposite =
     run 4 (start 4 (λ i. 4))
-    (sends 0 2 [] ∷ sends 0 3 [] ∷ sends 1 2 [] ∷ sends 1 3 [] ∷ offers 2 0 ∷ offers 2 2 ∷ delivers 2 ∷ delivers 2 ∷ offers 3 3 ∷ offers 3 1 ∷ delivers 3 ∷ delivers 3 ∷ [])
+    (sends 0 2 [] ∷ sends 0 3 [] ∷ sends 1 2 [] ∷ sends 1 3 [] ∷ offers 2 0 ∷ offers 2 2 ∷ delivers 2 ∷ delivers 2 ∷ offers 3 3
+    ∷ offers 3 1 ∷ delivers 3 ∷ delivers 3 ∷ [])
 
 -- the answers at 2 and at 3
 opposite-answers : drop 4 (answers opposite)
@@ -181,7 +188,8 @@ claims x y = cond (eqb x 0 && eqb y 1) 1 0
 
 -- refusal 16, and 15 before it
 room-calls : map (λ (r : Outcome). seen (r .answer))
-    (offer (node 0 0 []) (waiting 20) ∷ offer (node 0 0 (waitingBelow 14)) (waiting 20) ∷ offer (node 0 0 (waitingBelow 15)) (waiting 20) ∷ offer (node 0 0 (waitingBelow 15)) due ∷ offer (node 0 0 (waitingBelow 16)) due
+    (offer (node 0 0 []) (waiting 20) ∷ offer (node 0 0 (waitingBelow 14)) (waiting 20) ∷ offer (node 0 0 (waitingBelow 15)) (waiting 20)
+    ∷ offer (node 0 0 (waitingBelow 15)) due ∷ offer (node 0 0 (waitingBelow 16)) due
     ∷ offer (node 0 0 (waitingBelow 16)) (waiting 3) ∷ deliver (node 0 0 (waitingBelow 15 ++ (due ∷ []))) ∷ deliver (node 0 0 (waitingBelow 16)) ∷ [])
     ≡ holds 1 false ∷ holds 15 false ∷ refusal 16 ∷ holds 16 true ∷ refusal 16 ∷ refusal 15 ∷ gets user 1 1 16 [] 0 ∷ waits 16 ∷ []
 unfolding step send offer deliver atLimit deliverable trimFor fullest count columnCount clear only merge
@@ -189,9 +197,13 @@ room-calls = refl
 
 -- refusals 5, 6, 7, 12, 13 and 14, each on both sides of its bound, and the first that is met
 other-calls : map (λ (r : Outcome). seen (r .answer))
-    (send (node 1000000000 0 []) 0 [] ∷ send (node 0 1000000000 []) 1 [] ∷ send (node 999999999 999999999 []) 1 [] ∷ deliver (node 1000000000 0 (due ∷ [])) ∷ send (node 0 0 []) 0 [] ∷ send (node 0 0 []) 2 (replicate 65 7)
-    ∷ send (node 0 0 []) 1 (replicate 65 7) ∷ send (node 0 0 []) 1 (replicate 64 7) ∷ offer (node 0 0 []) (userMessage 1 1 2 4 claims []) ∷ offer (node 0 1 []) (userMessage 1 0 2 4 claims [])
-    ∷ offer (node 1 1 []) (userMessage 1 0 2 4 claims []) ∷ offer (node 1 0 []) (userMessage 1 0 2 4 claims []) ∷ offer (node 0 1 (due ∷ [])) due ∷ offer (node 0 0 (due ∷ [])) due ∷ [])
-    ≡ refusal 5 ∷ refusal 5 ∷ issues 1 ∷ refusal 5 ∷ refusal 6 ∷ refusal 6 ∷ refusal 7 ∷ issues 1 ∷ refusal 12 ∷ refusal 13 ∷ refusal 14 ∷ holds 1 true ∷ refusal 14 ∷ refusal 15 ∷ []
+    (send (node 1000000000 0 []) 0 [] ∷ send (node 0 1000000000 []) 1 [] ∷ send (node 999999999 999999999 []) 1 [] ∷ deliver (node 1000000000 0 (due ∷ []))
+    ∷ send (node 0 0 []) 0 [] ∷ send (node 0 0 []) 2 (replicate 65 7)
+    ∷ send (node 0 0 []) 1 (replicate 65 7) ∷ send (node 0 0 []) 1 (replicate 64 7) ∷ offer (node 0 0 []) (userMessage 1 1 2 4 claims [])
+    ∷ offer (node 0 1 []) (userMessage 1 0 2 4 claims [])
+    ∷ offer (node 1 1 []) (userMessage 1 0 2 4 claims []) ∷ offer (node 1 0 []) (userMessage 1 0 2 4 claims [])
+    ∷ offer (node 0 1 (due ∷ [])) due ∷ offer (node 0 0 (due ∷ [])) due ∷ [])
+    ≡ refusal 5 ∷ refusal 5 ∷ issues 1 ∷ refusal 5 ∷ refusal 6 ∷ refusal 6 ∷ refusal 7 ∷ issues 1 ∷ refusal 12 ∷ refusal 13 ∷ refusal 14
+    ∷ holds 1 true ∷ refusal 14 ∷ refusal 15 ∷ []
 unfolding step send offer deliver atLimit deliverable trimFor fullest count columnCount clear only merge
 other-calls = refl

@@ -82,10 +82,12 @@ pub record Good (n : ℕ) (caps : ℕ → ℕ) (w : World) : Type 0 where
   pub invariant : Invariant (stateOf w)
   pub node : (k : ℕ) → k < n → SoundNode n (caps k) (w .log) (w .history) k (w .nodes k)
   pub sound : (p : ℕ) (g : Issue) → IssueAt w p g → SoundIssue n caps (g .message)
-  pub taken : (t j p : ℕ) (e : Event) → getElem? (w .history) t ≡ some e → e .step ≡ offers j p → accepted (e .answer) ≡ true → (g : Issue) × IssueAt w p g × Kept (w .nodes (g .message .to)) (g .message)
+  pub taken : (t j p : ℕ) (e : Event) → getElem? (w .history) t ≡ some e → e .step ≡ offers j p → accepted (e .answer) ≡ true
+      → (g : Issue) × IssueAt w p g × Kept (w .nodes (g .message .to)) (g .message)
 
 -- states that agree place by place keep the same invariant
-pub invariant-cong : (log log′ : List Issue) (h : List Event) (M M′ : ℕ → Matrix) (D D′ : ℕ → ℕ → ℕ) → log ≡ log′ → ((k x y : ℕ) → M k x y ≡ M′ k x y) → ((k x : ℕ) → D k x ≡ D′ k x)
+pub invariant-cong : (log log′ : List Issue) (h : List Event) (M M′ : ℕ → Matrix) (D D′ : ℕ → ℕ → ℕ) → log ≡ log′
+    → ((k x y : ℕ) → M k x y ≡ M′ k x y) → ((k x : ℕ) → D k x ≡ D′ k x)
     → Invariant (record { log = log; history = h; matrix = M; deliv = D }) → Invariant (record { log = log′; history = h; matrix = M′; deliv = D′ })
 invariant-cong log log′ h M M′ D D′ l m d v =
     let m′ : M ≡ M′ = fun-ext (λ k. fun-ext (λ x. fun-ext (λ y. m k x y))) in

@@ -38,12 +38,21 @@ origin-grow log r history e m o = record {
 }
 
 -- a longer log and history keep a queue
-pub queue-grow : (log r : List Issue) (history : List Event) (e : Event) (k : ℕ) (v : ℕ → ℕ) (s : List Message) → SoundQueue log history k v s → SoundQueue (log ++ r) (history ++ (e ∷ [])) k v s
+pub queue-grow : (log r : List Issue) (history : List Event) (e : Event) (k : ℕ) (v : ℕ → ℕ) (s : List Message) → SoundQueue log history k v s
+    → SoundQueue (log ++ r) (history ++ (e ∷ [])) k v s
 queue-grow log r history e k v s q =
-    record { from = λ h m a. origin-grow log r history e m (q .from h m a); to = q .to; above = q .above; distinct = q .distinct; room = q .room; ready = q .ready }
+    record {
+      from = λ h m a. origin-grow log r history e m (q .from h m a);
+      to = q .to;
+      above = q .above;
+      distinct = q .distinct;
+      room = q .room;
+      ready = q .ready;
+    }
 
 -- a step of another node keeps a node
-node-grow : (n cap : ℕ) (log r : List Issue) (history : List Event) (e : Event) (k : ℕ) (d : Node) → e .node ≢ k → SoundNode n cap log history k d → SoundNode n cap (log ++ r) (history ++ (e ∷ [])) k d
+node-grow : (n cap : ℕ) (log r : List Issue) (history : List Event) (e : Event) (k : ℕ) (d : Node) → e .node ≢ k → SoundNode n cap log history k d
+    → SoundNode n cap (log ++ r) (history ++ (e ∷ [])) k d
 node-grow n cap log r history e k d ne v = record {
   me = v .me;
   sized = v .sized;
@@ -66,7 +75,8 @@ module _ (n : ℕ) (caps : ℕ → ℕ) (w : World) (g : Good n caps w) (i : ℕ
   w′ = grown w i d out e
 
   -- the one lemma for every step: node i and what it issued must be shown sound
-  pub good-grown : e .node ≡ i → Invariant (stateOf w′) → SoundNode n (caps i) (w′ .log) (w′ .history) i d → AllSound n caps out → Keeping w i d e → Good n caps w′
+  pub good-grown : e .node ≡ i → Invariant (stateOf w′) → SoundNode n (caps i) (w′ .log) (w′ .history) i d
+      → AllSound n caps out → Keeping w i d e → Good n caps w′
   good-grown here v ok sound keep = record { range = g .range; invariant = v; node = node; sound = sound′; taken = taken′ }
     where
       node : (k : ℕ) → k < n → SoundNode n (caps k) (w′ .log) (w′ .history) k (w′ .nodes k)
@@ -74,26 +84,35 @@ module _ (n : ℕ) (caps : ℕ → ℕ) (w : World) (g : Good n caps w) (i : ℕ
         where
           go : Dec (k ≡ i) → SoundNode n (caps k) (w′ .log) (w′ .history) k (w′ .nodes k)
           go (yes q) = rw (q, update-same (w .nodes) i d) ok
-          go (no q) = rw (update-other (w .nodes) i d k q) (node-grow n (caps k) (w .log) (map (issuedBy (length (w .history))) out) (w .history) e k (w .nodes k) (λ z. q (sym z ∙ here)) (g .node k h))
+          go (no q) =
+              rw (update-other (w .nodes) i d k q)
+              (node-grow n (caps k) (w .log) (map (issuedBy (length (w .history))) out) (w .history) e k (w .nodes k) (λ z. q (sym z ∙ here)) (g .node k h))
 
       sound′ : (p : ℕ) (l : Issue) → IssueAt w′ p l → SoundIssue n caps (l .message)
       sound′ p l a = go (at-append (w .log) (map (issuedBy (length (w .history))) out) p l a)
         where
           go : IssueAt w p l ⊎ ((q : ℕ) × (getElem? (map (issuedBy (length (w .history))) out) q ≡ some l)) → SoundIssue n caps (l .message)
           go (inl h) = g .sound p l h
-          go (inr h) = let r = map-at (issuedBy (length (w .history))) out (h .0) l (h .1) in subst (λ (z : Issue). SoundIssue n caps (z .message)) (r .2) (sound (h .0) (r .0) (r .1))
+          go (inr h) =
+              let r = map-at (issuedBy (length (w .history))) out (h .0) l (h .1) in
+              subst (λ (z : Issue). SoundIssue n caps (z .message)) (r .2) (sound (h .0) (r .0) (r .1))
 
       kept : (m : Message) → Kept (w .nodes (m .to)) m → Dec (m .to ≡ i) → Kept (w′ .nodes (m .to)) m
-      kept m h (yes q) = subst (λ (k : ℕ). Kept (w′ .nodes k) m) (sym q) (rw (update-same (w .nodes) i d) (keep .old m (subst (λ (k : ℕ). Kept (w .nodes k) m) q h)))
+      kept m h (yes q) =
+          subst (λ (k : ℕ). Kept (w′ .nodes k) m) (sym q) (rw (update-same (w .nodes) i d) (keep .old m (subst (λ (k : ℕ). Kept (w .nodes k) m) q h)))
       kept m h (no q) = rw (update-other (w .nodes) i d (m .to) q) h
 
-      taken′ : (t j p : ℕ) (x : Event) → getElem? (w′ .history) t ≡ some x → x .step ≡ offers j p → accepted (x .answer) ≡ true → (l : Issue) × IssueAt w′ p l × Kept (w′ .nodes (l .message .to)) (l .message)
+      taken′ : (t j p : ℕ) (x : Event) → getElem? (w′ .history) t ≡ some x → x .step ≡ offers j p → accepted (x .answer) ≡ true
+          → (l : Issue) × IssueAt w′ p l × Kept (w′ .nodes (l .message .to)) (l .message)
       taken′ t j p x a b c = go (at-snoc (w .history) e t x a)
         where
           go : Snoc (w .history) e t x → (l : Issue) × IssueAt w′ p l × Kept (w′ .nodes (l .message .to)) (l .message)
           go (inl h) =
-              let r = g .taken t j p x h b c in
-              (r .0, at-left (w .log) (map (issuedBy (length (w .history))) out) p (r .0) (r .1), kept (r .0 .message) (r .2) (ℕ-discrete (r .0 .message .to) i))
+              let r = g .taken t j p x h b c in (
+                r .0,
+                at-left (w .log) (map (issuedBy (length (w .history))) out) p (r .0) (r .1),
+                kept (r .0 .message) (r .2) (ℕ-discrete (r .0 .message .to) i),
+              )
           go (inr h) =
               let r = keep .new j p (ap (λ (z : Event). z .step) (sym (h .1)) ∙ b) (ap (λ (z : Event). accepted (z .answer)) (sym (h .1)) ∙ c) in (
                 r .0,
@@ -102,14 +121,17 @@ module _ (n : ℕ) (caps : ℕ → ℕ) (w : World) (g : Good n caps w) (i : ℕ
               )
 
 -- a step that takes nothing, at a node whose vector and queue stay
-pub keeps-all : (w : World) (i : ℕ) (d : Node) (e : Event) → ((j p : ℕ) → e .step ≡ offers j p → accepted (e .answer) ≡ true → ⊥) → d .deliv ≡ w .nodes i .deliv → d .held ≡ w .nodes i .held → Keeping w i d e
+pub keeps-all : (w : World) (i : ℕ) (d : Node) (e : Event) → ((j p : ℕ) → e .step ≡ offers j p → accepted (e .answer) ≡ true → ⊥) → d .deliv ≡ w .nodes i .deliv
+    → d .held ≡ w .nodes i .held → Keeping w i d e
 keeps-all w i d e quiet a b = record { old = λ m h. rw (a, b) h; new = λ j p s t. absurd (quiet j p s t) }
 
 -- a step that issues and delivers nothing, and changes no matrix and no vector
-pub quiet-grown : (n : ℕ) (caps : ℕ → ℕ) (w : World) → Good n caps w → (i : ℕ) (d : Node) (e : Event) → delivery (e .answer) ≡ none → d .matrix ≡ w .nodes i .matrix → d .deliv ≡ w .nodes i .deliv
+pub quiet-grown : (n : ℕ) (caps : ℕ → ℕ) (w : World) → Good n caps w → (i : ℕ) (d : Node) (e : Event) → delivery (e .answer) ≡ none
+    → d .matrix ≡ w .nodes i .matrix → d .deliv ≡ w .nodes i .deliv
     → Invariant (stateOf (grown w i d [] e))
 quiet-grown n caps w g i d e q m v =
-    invariant-cong (w .log) (w .log ++ []) (w .history ++ (e ∷ [])) (λ k. w .nodes k .matrix) (λ k. update (w .nodes) i d k .matrix) (λ k. w .nodes k .deliv) (λ k. update (w .nodes) i d k .deliv)
+    invariant-cong (w .log) (w .log ++ []) (w .history ++ (e ∷ [])) (λ k. w .nodes k .matrix) (λ k. update (w .nodes) i d k .matrix)
+    (λ k. w .nodes k .deliv) (λ k. update (w .nodes) i d k .deliv)
     (sym (append-nil (w .log))) (λ k x y. same k x y (ℕ-discrete k i)) (λ k x. same-deliv k x (ℕ-discrete k i)) (quiet-invariant (stateOf w) (g .invariant) e q)
   where
     same : (k x y : ℕ) → Dec (k ≡ i) → w .nodes k .matrix x y ≡ update (w .nodes) i d k .matrix x y
@@ -125,7 +147,8 @@ pub none-sound : (n : ℕ) (caps : ℕ → ℕ) → AllSound n caps []
 none-sound n caps p f e = absurd (at-none p f e)
 
 -- a step that leaves its node as it was: a refused one, and a deliver that delivers nothing
-pub still-good : (n : ℕ) (caps : ℕ → ℕ) (w : World) → Good n caps w → (i : ℕ) → i < n → (s : Step) (a : Answer) → delivery a ≡ none → offersAccepted a ≡ 0 → deliveries a ≡ 0
+pub still-good : (n : ℕ) (caps : ℕ → ℕ) (w : World) → Good n caps w → (i : ℕ) → i < n → (s : Step) (a : Answer) → delivery a ≡ none
+    → offersAccepted a ≡ 0 → deliveries a ≡ 0
     → ((j p : ℕ) → s ≡ offers j p → accepted a ≡ true → ⊥) → Good n caps (grown w i (w .nodes i) [] (record { node = i; step = s; answer = a }))
 still-good n caps w g i h s a q o c quiet =
     good-grown n caps w g i (w .nodes i) [] e refl (quiet-grown n caps w g i (w .nodes i) e q refl refl)
@@ -148,7 +171,8 @@ still-good n caps w g i h s a q o c quiet =
     v = g .node i h
 
 -- a refused step
-pub refuse-good : (n : ℕ) (caps : ℕ → ℕ) (w : World) → Good n caps w → (i : ℕ) → i < n → (s : Step) (r : ℕ) → Good n caps (afterStep w i s (refuse r (w .nodes i)))
+pub refuse-good : (n : ℕ) (caps : ℕ → ℕ) (w : World) → Good n caps w → (i : ℕ) → i < n → (s : Step) (r : ℕ)
+    → Good n caps (afterStep w i s (refuse r (w .nodes i)))
 refuse-good n caps w g i h s r = still-good n caps w g i h s (refused r) refl refl refl (λ j p q t. let z : _≡_ {A = ℕ} 0 1 = cc in omega arith)
 
 -- node i as its place says

@@ -29,7 +29,12 @@ delivered-snoc h e b g d = go (at-snoc h e b (d .event) (d .at))
   where
     go : Snoc h e b (d .event) → DeliveredAt h b (g .message) ⊎ New h e b g
     go (inl a) = inl (record { event = d .event; at = a; here = d .here; names = d .names })
-    go (inr a) = inr (record { at = a .0; here = ap (λ (z : Event). z .node) (sym (a .1)) ∙ d .here; names = ap (λ (z : Event). delivery (z .answer)) (sym (a .1)) ∙ d .names })
+    go (inr a) =
+        inr (record {
+          at = a .0;
+          here = ap (λ (z : Event). z .node) (sym (a .1)) ∙ d .here;
+          names = ap (λ (z : Event). delivery (z .answer)) (sym (a .1)) ∙ d .names;
+        })
 
 -- a place before the new step
 pub at-before : (h : List Event) (e : Event) (t : ℕ) (x : Event) → getElem? (h ++ (e ∷ [])) t ≡ some x → t < length h → getElem? h t ≡ some x
@@ -42,7 +47,8 @@ at-before h e t x a l = go (at-snoc h e t x a)
 -- before the new step: before or at an earlier accepted step of its node, or the send of what it delivers
 pub data Last (w : State) (e : Event) (a : ℕ) : Type 0 where
   by-node : (c : ℕ) (x : Event) → getElem? (w .history) c ≡ some x → accepted (x .answer) ≡ true → x .node ≡ e .node → UpTo w a c → Last w e a
-  by-message : (p : ℕ) (g : Issue) → At w p g → IsUser g → e .node ≡ g .message .to → delivery (e .answer) ≡ some (label (g .message)) → UpTo w a (g .step) → Last w e a
+  by-message : (p : ℕ) (g : Issue) → At w p g → IsUser g → e .node ≡ g .message .to
+      → delivery (e .answer) ≡ some (label (g .message)) → UpTo w a (g .step) → Last w e a
 
 module _ (w : State) (v : Invariant w) (e : Event) where
   -- the longer history

@@ -11,7 +11,8 @@ use lib.ListN.{length, getElem?}
 use Rattle.matrix.specs.Matrix.{Matrix}
 use Rattle.matrix.specs.Message.{number}
 use Rattle.protocol.proofs.Lists.{at-bound, at-left, at-last, Snoc, at-snoc}
-use Rattle.protocol.proofs.State.{Covers, counted, through, State, At, IsUser, Before, UpTo, Past, Accounted, IssuedAs, Invariant, covers-more, covers-grow, before-lt, before-bound}
+use Rattle.protocol.proofs.State.{Covers, counted, through, State, At, IsUser, Before, UpTo, Past, Accounted, IssuedAs}
+use Rattle.protocol.proofs.State.{Invariant, covers-more, covers-grow, before-lt, before-bound}
 use Rattle.protocol.specs.Answer.{label, accepted}
 use Rattle.protocol.specs.Order.{DeliveredAt, sameNode, message, chain}
 use Rattle.protocol.specs.World.{Issue, Event}
@@ -35,7 +36,8 @@ afterIssue w M′ f = record { log = w .log ++ (f ∷ []); history = w .history;
 
 -- a longer log keeps what was issued
 abbrev pub issued-grow : (l r : List Issue) (x y k : ℕ) → IssuedAs l x y k → IssuedAs (l ++ r) x y k
-issued-grow l r x y k s = record { place = s .place; issue = s .issue; at = at-left l r (s .place) (s .issue) (s .at); from = s .from; to = s .to; number = s .number }
+issued-grow l r x y k s =
+    record { place = s .place; issue = s .issue; at = at-left l r (s .place) (s .issue) (s .at); from = s .from; to = s .to; number = s .number }
 
 -- an entry of the new matrices: the old one, zero, or f's number in f's place
 pub data Entry (M M′ : ℕ → Matrix) (f : Issue) (k x y : ℕ) : Type 0 where
@@ -84,7 +86,8 @@ module _ (w : State) (v : Invariant w) (M′ : ℕ → Matrix) (f : Issue) (s : 
   -- the old log's numbers of this pair are below f's
   below : (p : ℕ) (g : Issue) → At w p g → g .message .from ≡ sender → g .message .to ≡ target → number (g .message) < number (f .message)
   below p g at a b =
-      let h : number (g .message) ≤ w .matrix sender sender target = subst (λ (y : ℕ). number (g .message) ≤ w .matrix sender sender y) b (subst (λ (x : ℕ). number (g .message) ≤ w .matrix x x (g .message .to)) a (v .numbered p g at)) in
+      let h : number (g .message) ≤ w .matrix sender sender target = subst (λ (y : ℕ). number (g .message) ≤ w .matrix sender sender y) b
+      (subst (λ (x : ℕ). number (g .message) ≤ w .matrix x x (g .message .to)) a (v .numbered p g at)) in
       omega (arith, s .column sender)
 
   -- f is not delivered
@@ -108,7 +111,8 @@ module _ (w : State) (v : Invariant w) (M′ : ℕ → Matrix) (f : Issue) (s : 
   before-old a c (chain _ b _ l r) = chain a b c (before-old a b l) (before-old b c r)
 
   -- the parts of the invariant, one by one: from, to and number name one issue
-  distinct′ : (p q : ℕ) (g h : Issue) → At w′ p g → At w′ q h → g .message .from ≡ h .message .from → g .message .to ≡ h .message .to → number (g .message) ≡ number (h .message) → p ≡ q
+  distinct′ : (p q : ℕ) (g h : Issue) → At w′ p g → At w′ q h → g .message .from ≡ h .message .from → g .message .to ≡ h .message .to
+      → number (g .message) ≡ number (h .message) → p ≡ q
   distinct′ p q g h a b c d e = go (at-snoc (w .log) f p g a) (at-snoc (w .log) f q h b)
     where
       go : Snoc (w .log) f p g → Snoc (w .log) f q h → p ≡ q
@@ -123,7 +127,8 @@ module _ (w : State) (v : Invariant w) (M′ : ℕ → Matrix) (f : Issue) (s : 
     where
       go : Snoc (w .log) f p g → number (g .message) ≤ M′ (g .message .from) (g .message .from) (g .message .to)
       go (inl x) = omega (arith, row (g .message .from) (g .message .to), v .numbered p g x)
-      go (inr x) = subst (λ (z : Issue). number (z .message) ≤ M′ (z .message .from) (z .message .from) (z .message .to)) (sym (x .1)) (omega (arith, s .raised))
+      go (inr x) =
+          subst (λ (z : Issue). number (z .message) ≤ M′ (z .message .from) (z .message .from) (z .message .to)) (sym (x .1)) (omega (arith, s .raised))
 
   -- kept entries count issued messages
   kept′ : (i x y k : ℕ) → M′ i x y ≡ suc k → IssuedAs (w′ .log) x y (suc k)
@@ -185,7 +190,9 @@ module _ (w : State) (v : Invariant w) (M′ : ℕ → Matrix) (f : Issue) (s : 
       where
         go : Snoc (w .log) f p g → g .step < length (w .history)
         go (inl h) = v .early p g h u
-        go (inr h) = let e : g .step ≡ f .step = ap (λ (z : Issue). z .step) (h .1) in omega (arith, t .last (ap (λ (z : Issue). z .message .kind) (sym (h .1)) ∙ u))
+        go (inr h) =
+            let e : g .step ≡ f .step = ap (λ (z : Issue). z .step) (h .1) in
+            omega (arith, t .last (ap (λ (z : Issue). z .message .kind) (sym (h .1)) ∙ u))
 
     -- a step sends one user message at most
     oneEach′ : (p q : ℕ) (g h : Issue) → At w′ p g → At w′ q h → IsUser g → IsUser h → g .step ≡ h .step → p ≡ q
@@ -209,11 +216,16 @@ module _ (w : State) (v : Invariant w) (M′ : ℕ → Matrix) (f : Issue) (s : 
         c′ = covers-grow (w .log) (f ∷ []) m (λ x. w .matrix i x (m .message .to)) c
 
         go : Dec (i ≡ sender) → Dec (m .message .to ≡ target) → Covers (w′ .log) m (λ x. M′ i x (m .message .to))
-        go (no a) b = covers-more (w′ .log) m (λ x. w .matrix i x (m .message .to)) (λ x. M′ i x (m .message .to)) (λ x. omega (arith, s .others i x (m .message .to) a)) c′
-        go (yes a) (no b) = covers-more (w′ .log) m (λ x. w .matrix i x (m .message .to)) (λ x. M′ i x (m .message .to)) (λ x. rw a (omega (arith, s .same x (m .message .to) b))) c′
+        go (no a) b =
+            covers-more (w′ .log) m (λ x. w .matrix i x (m .message .to)) (λ x. M′ i x (m .message .to))
+            (λ x. omega (arith, s .others i x (m .message .to) a)) c′
+        go (yes a) (no b) =
+            covers-more (w′ .log) m (λ x. w .matrix i x (m .message .to)) (λ x. M′ i x (m .message .to))
+            (λ x. rw a (omega (arith, s .same x (m .message .to) b))) c′
         go (yes a) (yes b) =
             through (λ x. M′ i x (m .message .to)) (length (w .log)) f (at-last (w .log) f) (sym b) (rw (a, b) (omega (arith, s .raised)))
-            (covers-more (w′ .log) m (λ x. w .matrix i x (m .message .to)) (λ x. f .message .entries x (m .message .to)) (λ x. rw (a, b) (omega (arith, s .column x))) c′)
+            (covers-more (w′ .log) m (λ x. w .matrix i x (m .message .to)) (λ x. f .message .entries x (m .message .to))
+            (λ x. rw (a, b) (omega (arith, s .column x))) c′)
 
     -- the past of a node is delivered or covered
     nodeCovers′ : (p b i : ℕ) (m : Issue) (e : Event) → At w′ p m → IsUser m → getElem? (w .history) b ≡ some e → accepted (e .answer) ≡ true → e .node ≡ i
@@ -239,7 +251,8 @@ module _ (w : State) (v : Invariant w) (M′ : ℕ → Matrix) (f : Issue) (s : 
             inr (counted (λ x. M′ i x (m .message .to)) (rw (h .1, r) (omega (arith, s .raised))))
 
     -- what f carries covers its past, since its sender's columns did
-    messageCovers′ : (p q : ℕ) (m g : Issue) → At w′ p m → At w′ q g → IsUser m → IsUser g → Before w′ (m .step) (g .step) → Accounted w′ m (λ x. g .message .entries x (m .message .to))
+    messageCovers′ : (p q : ℕ) (m g : Issue) → At w′ p m → At w′ q g → IsUser m → IsUser g → Before w′ (m .step) (g .step)
+        → Accounted w′ m (λ x. g .message .entries x (m .message .to))
     messageCovers′ p q m g a b u u′ before = go (at-snoc (w .log) f p m a) (at-snoc (w .log) f q g b)
       where
         old : Before w (m .step) (g .step)
@@ -251,11 +264,14 @@ module _ (w : State) (v : Invariant w) (M′ : ℕ → Matrix) (f : Issue) (s : 
 
         go : Snoc (w .log) f p m → Snoc (w .log) f q g → Accounted w′ m (λ x. g .message .entries x (m .message .to))
         go (inr h) k = absurd (final (g .step) (cc) (subst (λ (z : Issue). Before w (z .step) (g .step)) (h .1) old))
-        go (inl h) (inl k) = pass (λ x. g .message .entries x (m .message .to)) (λ x. g .message .entries x (m .message .to)) (λ x. omega arith) (v .messageCovers p q m g h k u u′ old)
+        go (inl h) (inl k) =
+            pass (λ x. g .message .entries x (m .message .to)) (λ x. g .message .entries x (m .message .to))
+            (λ x. omega arith) (v .messageCovers p q m g h k u u′ old)
         go (inl h) (inr k) =
             let uf : IsUser f = cc in
             let r = t .event uf in
-            pass (λ x. w .matrix sender x (m .message .to)) (λ x. g .message .entries x (m .message .to)) (λ x. rw (k .1) (omega (arith, s .whole uf x (m .message .to))))
+            pass (λ x. w .matrix sender x (m .message .to)) (λ x. g .message .entries x (m .message .to))
+            (λ x. rw (k .1) (omega (arith, s .whole uf x (m .message .to))))
             (v .nodeCovers p (f .step) sender m (r .0) h u (r .1) (r .2) (r .3) (inr (subst (λ (z : Issue). Before w (m .step) (z .step)) (k .1) old)))
 
     -- deliveries are as they were

@@ -43,7 +43,8 @@ learned-le k i m e x y = go (learned-case k i m e x y)
 pub learned-from : (k : Kind) (i : ℕ) (m e : Matrix) (x y : ℕ) → (learned k i m e x y ≡ m x y) ⊎ (learned k i m e x y ≡ e x y)
 learned-from k i m e x y = go (learned-case k i m e x y) (decLe (e x y) (m x y))
   where
-    go : (learned k i m e x y ≡ m x y) ⊎ ((y ≢ i) × (learned k i m e x y ≡ max (m x y) (e x y))) → Dec (e x y ≤ m x y) → (learned k i m e x y ≡ m x y) ⊎ (learned k i m e x y ≡ e x y)
+    go : (learned k i m e x y ≡ m x y) ⊎ ((y ≢ i) × (learned k i m e x y ≡ max (m x y) (e x y))) → Dec (e x y ≤ m x y)
+        → (learned k i m e x y ≡ m x y) ⊎ (learned k i m e x y ≡ e x y)
     go (inl a) b = inl a
     go (inr a) (yes b) = inl (omega (arith, a .1))
     go (inr a) (no b) = inr (omega (arith, a .1))
@@ -55,11 +56,14 @@ learned-user k i m e x y u ne = rw u (omega (arith, merge-max i m e x y ne))
 -- what `learn` does is such a run of trim, and ends within the cap
 pub learn-rounds : (k : Kind) (d : Node) (j : ℕ) (e : Matrix) → d .me < d .n → d .n ≤ d .cap → MatrixRules (d .n) (d .me) (d .matrix) → MatrixRules (d .n) j e
     → Rounds (d .n) (d .cap) (d .me) (learned k (d .me) (d .matrix) e) ((learn k d e) .extras) ((learn k d e) .matrix)
-learn-rounds user d j e hi hc f f′ = trim-rounds 12 (d .n) (d .me) (d .cap) (merge (d .me) (d .matrix) e) hi hc (merge-rules (d .n) (d .me) j (d .matrix) e f f′)
+learn-rounds user d j e hi hc f f′ =
+    trim-rounds 12 (d .n) (d .me) (d .cap) (merge (d .me) (d .matrix) e) hi hc (merge-rules (d .n) (d .me) j (d .matrix) e f f′)
 learn-rounds extra d j e hi hc f f′ = done (d .matrix)
 
 -- at most cap entries are left
-pub learn-few : (k : Kind) (d : Node) (j : ℕ) (e : Matrix) → d .me < d .n → d .n ≤ 12 → d .n ≤ d .cap → MatrixRules (d .n) (d .me) (d .matrix) → MatrixRules (d .n) j e → count (d .matrix) ≤ d .cap
+pub learn-few : (k : Kind) (d : Node) (j : ℕ) (e : Matrix) → d .me < d .n → d .n ≤ 12 → d .n ≤ d .cap → MatrixRules (d .n) (d .me) (d .matrix)
+    → MatrixRules (d .n) j e → count (d .matrix) ≤ d .cap
     → count ((learn k d e) .matrix) ≤ d .cap
-learn-few user d j e hi hn hc f f′ c = trim-ends (d .n) (d .me) (d .cap) (merge (d .me) (d .matrix) e) hi hn hc (merge-rules (d .n) (d .me) j (d .matrix) e f f′)
+learn-few user d j e hi hn hc f f′ c =
+    trim-ends (d .n) (d .me) (d .cap) (merge (d .me) (d .matrix) e) hi hn hc (merge-rules (d .n) (d .me) j (d .matrix) e f f′)
 learn-few extra d j e hi hn hc f f′ c = c

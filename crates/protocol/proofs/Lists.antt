@@ -41,7 +41,8 @@ module _ {A : Type 0} where
   at-snoc (x ∷ l) b (suc p) a e = elim (at-snoc l b p a e) [ inl h ↦ inl h | inr h ↦ inr (ap suc (h .0), h .1) ]
 
   -- what holds of each element, and of one more
-  pub each-snoc : (P : A → Type 0) (l : List A) (b : A) → ((p : ℕ) (a : A) → getElem? l p ≡ some a → P a) → P b → (p : ℕ) (a : A) → getElem? (l ++ (b ∷ [])) p ≡ some a → P a
+  pub each-snoc : (P : A → Type 0) (l : List A) (b : A) → ((p : ℕ) (a : A) → getElem? l p ≡ some a → P a) → P b → (p : ℕ) (a : A)
+      → getElem? (l ++ (b ∷ [])) p ≡ some a → P a
   each-snoc P l b f h p a e = go (at-snoc l b p a e)
     where
       go : Snoc l b p a → P a

@@ -29,7 +29,8 @@ module _ (n : ℕ) (caps : ℕ → ℕ) (w : World) (g : Good n caps w) where
   -- delivered, by the vector and by the history
   pub told : (p : ℕ) (l : Issue) → IssueAt w p l → Delivered w (l .message) → number (l .message) ≤ w .nodes (l .message .to) .deliv (l .message .from)
   told p l a d =
-      let b : number (l .message) ≤ w .nodes (d .1 .event .node) .deliv (l .message .from) = g .invariant .told (d .0) (d .1 .event) (label (l .message)) (d .1 .at) (d .1 .names) in
+      let b : number (l .message) ≤ w .nodes (d .1 .event .node) .deliv (l .message .from)
+      = g .invariant .told (d .0) (d .1 .event) (label (l .message)) (d .1 .at) (d .1 .names) in
       rw (d .1 .here) at b
 
   -- so delivered is decided
@@ -46,18 +47,21 @@ module _ (n : ℕ) (caps : ℕ → ℕ) (w : World) (g : Good n caps w) where
   earlier (suc k) = go (earlier k) (getElem? (w .log) k) refl
     where
       -- below k and at k
-      both : ((q : ℕ) (h : Issue) → q < k → IssueAt w q h → Delivered w (h .message)) → ((h : Issue) → IssueAt w k h → Delivered w (h .message)) → (q : ℕ) (h : Issue) → q < suc k → IssueAt w q h
+      both : ((q : ℕ) (h : Issue) → q < k → IssueAt w q h → Delivered w (h .message)) → ((h : Issue) → IssueAt w k h → Delivered w (h .message))
+          → (q : ℕ) (h : Issue) → q < suc k → IssueAt w q h
           → Dec (q ≡ k) → Delivered w (h .message)
       both f here q h l a (yes s) = here h (rw s at a)
       both f here q h l a (no s) = f q h (omega arith) a
 
-      go : ((q : ℕ) (h : Issue) → q < k → IssueAt w q h → Delivered w (h .message)) ⊎ ((q : ℕ) × (h : Issue) × Earliest w q h) → (o : Option Issue) → getElem? (w .log) k ≡ o
+      go : ((q : ℕ) (h : Issue) → q < k → IssueAt w q h → Delivered w (h .message)) ⊎ ((q : ℕ) × (h : Issue) × Earliest w q h)
+          → (o : Option Issue) → getElem? (w .log) k ≡ o
           → ((q : ℕ) (h : Issue) → q < suc k → IssueAt w q h → Delivered w (h .message)) ⊎ ((q : ℕ) × (h : Issue) × Earliest w q h)
       go (inr r) o e = inr r
       go (inl f) none e = inl (λ q h l a. both f (λ x b. let z : _≡_ {A = ℕ} 0 1 = cc in absurd (omega arith)) q h l a (ℕ-discrete q k))
       go (inl f) (some x) e = decided (delivered? k x e)
         where
-          decided : Delivered w (x .message) ⊎ (¬ Delivered w (x .message)) → ((q : ℕ) (h : Issue) → q < suc k → IssueAt w q h → Delivered w (h .message)) ⊎ ((q : ℕ) × (h : Issue) × Earliest w q h)
+          decided : Delivered w (x .message) ⊎ (¬ Delivered w (x .message))
+              → ((q : ℕ) (h : Issue) → q < suc k → IssueAt w q h → Delivered w (h .message)) ⊎ ((q : ℕ) × (h : Issue) × Earliest w q h)
           decided (inl d) = inl (λ q h l a. both f (λ y b. let z : x ≡ y = cc in rw z at d) q h l a (ℕ-discrete q k))
           decided (inr d) = inr (k, x, record { at = e; undelivered = d; earlier = f })
 
@@ -65,7 +69,8 @@ module _ (n : ℕ) (caps : ℕ → ℕ) (w : World) (g : Good n caps w) where
   pub exists : (p : ℕ) (f : Issue) → IssueAt w p f → ¬ Delivered w (f .message) → (q : ℕ) × (h : Issue) × Earliest w q h
   exists p f a open′ = go (earlier (suc p))
     where
-      go : ((q : ℕ) (h : Issue) → q < suc p → IssueAt w q h → Delivered w (h .message)) ⊎ ((q : ℕ) × (h : Issue) × Earliest w q h) → (q : ℕ) × (h : Issue) × Earliest w q h
+      go : ((q : ℕ) (h : Issue) → q < suc p → IssueAt w q h → Delivered w (h .message)) ⊎ ((q : ℕ) × (h : Issue) × Earliest w q h)
+          → (q : ℕ) × (h : Issue) × Earliest w q h
       go (inl r) = absurd (open′ (r p f (omega arith) a))
       go (inr r) = r
 
@@ -76,28 +81,38 @@ module _ (n : ℕ) (caps : ℕ → ℕ) (w : World) (g : Good n caps w) where
     ok = g .node j hj
 
     -- a message in the queue is held
-    pub queued-held : (h : ℕ) (m : Message) → getElem? (w .nodes j .held) h ≡ some m → (p : ℕ) × (l : Issue) × IssueAt w p l × (l .message ≡ m) × (m .to ≡ j) × Held w p m
+    pub queued-held : (h : ℕ) (m : Message) → getElem? (w .nodes j .held) h ≡ some m
+        → (p : ℕ) × (l : Issue) × IssueAt w p l × (l .message ≡ m) × (m .to ≡ j) × Held w p m
     queued-held h m a =
         let o = ok .queue .from h m a in
-        let to : m .to ≡ j = ok .queue .to h m a in
-        (o .issue, o .g, o .logged, o .message, to, record { place = o .place; event = o .event; at = o .at; offered = o .offered; accepted = o .accepted; undelivered = λ d. above o to d })
+        let to : m .to ≡ j = ok .queue .to h m a in (
+          o .issue,
+          o .g,
+          o .logged,
+          o .message,
+          to,
+          record { place = o .place; event = o .event; at = o .at; offered = o .offered; accepted = o .accepted; undelivered = λ d. above o to d },
+        )
       where
         above : Origin (w .log) (w .history) m → m .to ≡ j → Delivered w m → ⊥
         above o to d =
             let d′ : Delivered w (o .g .message) = subst (λ (z : Message). Delivered w z) (sym (o .message)) d in
-            let b : number m ≤ w .nodes (m .to) .deliv (m .from) = subst (λ (z : Message). number z ≤ w .nodes (z .to) .deliv (z .from)) (o .message) (told (o .issue) (o .g) (o .logged) d′) in
+            let b : number m ≤ w .nodes (m .to) .deliv (m .from)
+            = subst (λ (z : Message). number z ≤ w .nodes (z .to) .deliv (z .from)) (o .message) (told (o .issue) (o .g) (o .logged) d′) in
             let b′ : number m ≤ w .nodes j .deliv (m .from) = subst (λ (z : ℕ). number m ≤ w .nodes z .deliv (m .from)) to b in
             omega (arith, ok .queue .above h m a)
 
     -- a held message is in the queue
-    pub held-queued : (p : ℕ) (l : Issue) → IssueAt w p l → l .message .to ≡ j → Held w p (l .message) → (h : ℕ) × (getElem? (w .nodes j .held) h ≡ some (l .message))
+    pub held-queued : (p : ℕ) (l : Issue) → IssueAt w p l → l .message .to ≡ j → Held w p (l .message)
+        → (h : ℕ) × (getElem? (w .nodes j .held) h ≡ some (l .message))
     held-queued p l a to h =
         let r = g .taken (h .place) (l .message .to) p (h .event) (h .at) (h .offered) (h .accepted) in
         let z : r .0 ≡ l = cc (r .1, a) in
         go (subst (λ (k : ℕ). Kept (w .nodes k) (l .message)) to (subst (λ (x : Issue). Kept (w .nodes (x .message .to)) (x .message)) z (r .2)))
       where
         go : Kept (w .nodes j) (l .message) → (h : ℕ) × (getElem? (w .nodes j .held) h ≡ some (l .message))
-        go (inl q) = absurd (h .undelivered (g .invariant .seen p l a (subst (λ (k : ℕ). number (l .message) ≤ w .nodes k .deliv (l .message .from)) (sym to) q)))
+        go (inl q) =
+            absurd (h .undelivered (g .invariant .seen p l a (subst (λ (k : ℕ). number (l .message) ≤ w .nodes k .deliv (l .message .from)) (sym to) q)))
         go (inr q) = q
 
     -- both, and how many
@@ -138,31 +153,38 @@ module _ (n : ℕ) (caps : ℕ → ℕ) (w : World) (g : Good n caps w) where
           go (suc k) q =
               let c = g .invariant .carried p f at x i k q in
               let s = c .0 in
-              let b : number (s .issue .message) ≤ w .nodes (s .issue .message .to) .deliv (s .issue .message .from) = told (s .place) (s .issue) (s .at) (first (s .place) (s .issue) (c .1) (s .at) (s .to)) in
+              let b : number (s .issue .message) ≤ w .nodes (s .issue .message .to) .deliv (s .issue .message .from)
+              = told (s .place) (s .issue) (s .at) (first (s .place) (s .issue) (c .1) (s .at) (s .to)) in
               let b′ : suc k ≤ w .nodes i .deliv x =
-              subst (λ (z : ℕ). suc k ≤ w .nodes i .deliv z) (s .from) (subst (λ (z : ℕ). suc k ≤ w .nodes z .deliv (s .issue .message .from)) (s .to) (rw (s .number) at b)) in
+              subst (λ (z : ℕ). suc k ≤ w .nodes i .deliv z) (s .from)
+              (subst (λ (z : ℕ). suc k ≤ w .nodes z .deliv (s .issue .message .from)) (s .to) (rw (s .number) at b)) in
               omega arith
 
       ready : T (deliverable d (f .message))
       ready = le-deliverable d (f .message) (λ x h. entries-delivered x)
 
       -- a message in the queue with its from and number is it
-      same-held : (h : ℕ) (a : Message) → getElem? (w .nodes i .held) h ≡ some a → a .from ≡ f .message .from → number a ≡ number (f .message) → Held w p (f .message)
+      same-held : (h : ℕ) (a : Message) → getElem? (w .nodes i .held) h ≡ some a → a .from ≡ f .message .from
+          → number a ≡ number (f .message) → Held w p (f .message)
       same-held h a b s k =
           let o = queued-held i hi h a b in
-          let q : o .0 ≡ p = g .invariant .distinct (o .0) p (o .1) f (o .2) at (ap (λ (z : Message). z .from) (o .3) ∙ s) (ap (λ (z : Message). z .to) (o .3) ∙ o .4) (ap number (o .3) ∙ k) in
+          let q : o .0 ≡ p = g .invariant .distinct (o .0) p (o .1) f (o .2) at (ap (λ (z : Message). z .from) (o .3) ∙ s)
+          (ap (λ (z : Message). z .to) (o .3) ∙ o .4) (ap number (o .3) ∙ k) in
           let l : IssueAt w p (o .1) = rw q at (o .2) in
           let z : o .1 ≡ f = cc in
           let m : a ≡ f .message = sym (o .3) ∙ ap (λ (z : Issue). z .message) z in
           subst (λ (z : Message). Held w p z) m (subst (λ (z : ℕ). Held w z a) q (o .5))
 
-      held-already : (l : List Message) → T (someSameOrigin l (f .message)) → ((h : ℕ) (a : Message) → getElem? l h ≡ some a → a .from ≡ f .message .from → number a ≡ number (f .message) → Held w p (f .message))
+      held-already : (l : List Message) → T (someSameOrigin l (f .message))
+          → ((h : ℕ) (a : Message) → getElem? l h ≡ some a → a .from ≡ f .message .from → number a ≡ number (f .message) → Held w p (f .message))
           → Held w p (f .message)
       held-already [] t k = absurd t
       held-already (a ∷ l) t k = go (or-T (sameOrigin a (f .message)) (someSameOrigin l (f .message)) t) (held-already l)
         where
           go : T (sameOrigin a (f .message)) ⊎ T (someSameOrigin l (f .message))
-              → (T (someSameOrigin l (f .message)) → ((h : ℕ) (a : Message) → getElem? l h ≡ some a → a .from ≡ f .message .from → number a ≡ number (f .message) → Held w p (f .message)) → Held w p (f .message))
+              → (T (someSameOrigin l (f .message))
+              → ((h : ℕ) (a : Message) → getElem? l h ≡ some a → a .from ≡ f .message .from → number a ≡ number (f .message)
+              → Held w p (f .message)) → Held w p (f .message))
               → Held w p (f .message)
           go (inl q) ih =
               let r = and-T (eqb (a .from) (f .message .from)) (eqb (number a) (number (f .message))) q in
@@ -197,7 +219,8 @@ module _ (n : ℕ) (caps : ℕ → ℕ) (w : World) (g : Good n caps w) where
           has-room =
               not-or (eqb (length (w .nodes i .held)) 16) (eqb (length (w .nodes i .held)) 15 && not (deliverable d (f .message)))
               (ne→neqb (length (w .nodes i .held)) 16 (omega (arith, (queue-agrees i hi) .number)))
-              (not-T (eqb (length (w .nodes i .held)) 15 && not (deliverable d (f .message))) (λ t. T-not (deliverable d (f .message)) ((and-T (eqb (length (w .nodes i .held)) 15) (not (deliverable d (f .message))) t) .1) ready))
+              (not-T (eqb (length (w .nodes i .held)) 15 && not (deliverable d (f .message)))
+              (λ t. T-not (deliverable d (f .message)) ((and-T (eqb (length (w .nodes i .held)) 15) (not (deliverable d (f .message))) t) .1) ready))
 
       -- a deliver delivers a message: it, or another
       pub delivers-first : Held w p (f .message) ⊎ (heldAt w i ≡ maxHeld) → DeliversNew w i
@@ -206,14 +229,19 @@ module _ (n : ℕ) (caps : ℕ → ℕ) (w : World) (g : Good n caps w) where
         where
           some-ready : Held w p (f .message) ⊎ (heldAt w i ≡ maxHeld) → (h : ℕ) × (a : Message) × (getElem? (w .nodes i .held) h ≡ some a) × T (deliverable d a)
           some-ready (inl q) = let r = held-queued i hi p f at refl q in (r .0, f .message, r .1, ready)
-          some-ready (inr q) = let r = g .node i hi .queue .ready (omega (arith, (queue-agrees i hi) .number)) in (r .0, r .1, r .2, le-deliverable d (r .1) (r .3))
+          some-ready (inr q) =
+              let r = g .node i hi .queue .ready (omega (arith, (queue-agrees i hi) .number)) in
+              (r .0, r .1, r .2, le-deliverable d (r .1) (r .3))
 
           answer-is : (r : Search) → search (deliverable d) (w .nodes i .held) ≡ r → (deliver (w .nodes i)) ≡ conclude d r
           answer-is r q =
-              ap deliver (node-eq n caps w g i hi) ∙ cond-no (atLimit d) (refuse 5 d) (conclude d (search (deliverable d) (w .nodes i .held))) (below-limit n caps w g few i) ∙ ap (conclude d) q
+              ap deliver (node-eq n caps w g i hi)
+              ∙ cond-no (atLimit d) (refuse 5 d) (conclude d (search (deliverable d) (w .nodes i .held))) (below-limit n caps w g few i) ∙ ap (conclude d) q
 
           go : (r : Search) → search (deliverable d) (w .nodes i .held) ≡ r → DeliversNew w i
-          go absent q = let a = some-ready c in absurd (T-not (deliverable d (a .1)) (search-absent (deliverable d) (w .nodes i .held) q (a .0) (a .1) (a .2)) (a .3))
+          go absent q =
+              let a = some-ready c in
+              absurd (T-not (deliverable d (a .1)) (search-absent (deliverable d) (w .nodes i .held) q (a .0) (a .1) (a .2)) (a .3))
           go (found k a l) q =
               let r = search-found (deliverable d) (w .nodes i .held) k a l q in
               let o = queued-held i hi (r .0) a (r .2 .at) in

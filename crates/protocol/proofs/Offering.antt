@@ -31,7 +31,8 @@ unfolding deliverable
 le-deliverable d m f = all-each 12 (λ x. leb (m .entries x (d .me)) (d .deliv x)) (λ x h. le→leb (m .entries x (d .me)) (d .deliv x) (f x h))
 
 -- where no message of the list has f's from and number, none has
-other-origin : (l : List Message) (f : Message) → T (not (someSameOrigin l f)) → (h : ℕ) (a : Message) → getElem? l h ≡ some a → a .from ≡ f .from → number a ≡ number f → ⊥
+other-origin : (l : List Message) (f : Message) → T (not (someSameOrigin l f)) → (h : ℕ) (a : Message) → getElem? l h ≡ some a
+    → a .from ≡ f .from → number a ≡ number f → ⊥
 other-origin [] f t h a e p q = at-none h a e
 other-origin (b ∷ l) f t zero a e p q =
     let z : b ≡ a = cc in
@@ -40,7 +41,8 @@ other-origin (b ∷ l) f t zero a e p q =
 other-origin (b ∷ l) f t (suc h) a e p q = other-origin l f ((or-not (sameOrigin b f) (someSameOrigin l f) t) .1) h a e p q
 
 -- one more message in the queue
-queue-snoc : (log : List Issue) (history : List Event) (k : ℕ) (v : ℕ → ℕ) (s : List Message) (f : Message) → SoundQueue log history k v s → Origin log history f → f .to ≡ k → v (f .from) < number f
+queue-snoc : (log : List Issue) (history : List Event) (k : ℕ) (v : ℕ → ℕ) (s : List Message) (f : Message) → SoundQueue log history k v s
+    → Origin log history f → f .to ≡ k → v (f .from) < number f
     → T (not (someSameOrigin s f)) → length s < 16 → (length s ≡ 15 → (x : ℕ) → x < 12 → f .entries x k ≤ v x) → SoundQueue log history k v (s ++ (f ∷ []))
 queue-snoc log history k v s f q from to above free room ready =
     record {
@@ -52,7 +54,8 @@ queue-snoc log history k v s f q from to above free room ready =
       ready = λ e. (length s, f, at-last s f, ready (omega (arith, length-snoc s f)));
     }
   where
-    distinct′ : (h h′ : ℕ) (a b : Message) → getElem? (s ++ (f ∷ [])) h ≡ some a → getElem? (s ++ (f ∷ [])) h′ ≡ some b → a .from ≡ b .from → number a ≡ number b → h ≡ h′
+    distinct′ : (h h′ : ℕ) (a b : Message) → getElem? (s ++ (f ∷ [])) h ≡ some a → getElem? (s ++ (f ∷ [])) h′ ≡ some b
+        → a .from ≡ b .from → number a ≡ number b → h ≡ h′
     distinct′ h h′ a b e e′ p n = go (at-snoc s f h a e) (at-snoc s f h′ b e′)
       where
         go : Snoc s f h a → Snoc s f h′ b → h ≡ h′
@@ -112,7 +115,13 @@ module _ (n : ℕ) (caps : ℕ → ℕ) (w : World) (g : Good n caps w) (i : ℕ
         row = λ y. omega (arith, ok .row y, length-snoc (w .history) e);
         queue = queue-snoc (w .log ++ []) (w .history ++ (e ∷ [])) i (w .nodes i .deliv) (w .nodes i .held) f
             (queue-grow (w .log) [] (w .history) e i (w .nodes i .deliv) (w .nodes i .held) (ok .queue)) origin to above free room ready;
-        number = omega (arith, ok .number, length-snoc (w .nodes i .held) f, answers-here offersAccepted i (w .history) e refl, answers-here deliveries i (w .history) e refl);
+        number = omega (
+          arith,
+          ok .number,
+          length-snoc (w .nodes i .held) f,
+          answers-here offersAccepted i (w .history) e refl,
+          answers-here deliveries i (w .history) e refl,
+        );
       }
 
       old : (m : Message) → Kept (w .nodes i) m → Kept d′ m
@@ -158,6 +167,9 @@ module _ (n : ℕ) (caps : ℕ → ℕ) (w : World) (g : Good n caps w) (i : ℕ
           (omega (arith, neqb→ne (length (d .held)) 16 (r .0), ok .queue .room)) (λ q. deliverable-le d f (ready q (decide (deliverable d f)) (r .1)))
         where
           -- into the sixteenth place goes a deliverable one
-          ready : length (d .held) ≡ 15 → T (deliverable d f) ⊎ T (not (deliverable d f)) → T (not (eqb (length (d .held)) 15 && not (deliverable d f))) → T (deliverable d f)
+          ready : length (d .held) ≡ 15 → T (deliverable d f) ⊎ T (not (deliverable d f))
+              → T (not (eqb (length (d .held)) 15 && not (deliverable d f))) → T (deliverable d f)
           ready q (inl t) h = t
-          ready q (inr t) h = absurd (T-not (eqb (length (d .held)) 15 && not (deliverable d f)) h (T-and (eqb (length (d .held)) 15) (not (deliverable d f)) (eq→eqb (length (d .held)) 15 q) t))
+          ready q (inr t) h =
+              absurd (T-not (eqb (length (d .held)) 15 && not (deliverable d f)) h
+              (T-and (eqb (length (d .held)) 15) (not (deliverable d f)) (eq→eqb (length (d .held)) 15 q) t))

@@ -38,7 +38,8 @@ pub extra-user : extra ≡ user → ⊥
 extra-user e = let z : _≡_ {A = ℕ} 0 1 = cc in omega arith
 
 -- node i, whose matrix is m, issues an extra message to l
-extra-issuing : (M : ℕ → Matrix) (i l n cap t : ℕ) (m : Matrix) → ((x y : ℕ) → M i x y ≡ m x y) → l ≢ i → Issuing M (putMatrix M i (clear i l m)) (issuedBy t (extraMessage i l n cap m))
+extra-issuing : (M : ℕ → Matrix) (i l n cap t : ℕ) (m : Matrix) → ((x y : ℕ) → M i x y ≡ m x y) → l ≢ i
+    → Issuing M (putMatrix M i (clear i l m)) (issuedBy t (extraMessage i l n cap m))
 extra-issuing M i l n cap t m e ne = record {
   apart = λ q. ne (sym q);
   column = λ x. only-col l m x ∙ sym (e x l);
@@ -56,10 +57,12 @@ extra-issuing M i l n cap t m e ne = record {
 
 -- nothing is asked of an extra message's step
 extra-step : (w : State) (f : Issue) → f .message .kind ≡ extra → UserStep w f
-extra-step w f e = record { last = λ u. absurd (extra-user (sym e ∙ u)); event = λ u. absurd (extra-user (sym e ∙ u)); free = λ u. absurd (extra-user (sym e ∙ u)) }
+extra-step w f e =
+    record { last = λ u. absurd (extra-user (sym e ∙ u)); event = λ u. absurd (extra-user (sym e ∙ u)); free = λ u. absurd (extra-user (sym e ∙ u)) }
 
 -- the rounds keep the invariant
-pub rounds-invariant : (n cap i t : ℕ) (m : Matrix) (extras : List Message) (m′ : Matrix) → Rounds n cap i m extras m′ → (log : List Issue) (h : List Event) (M : ℕ → Matrix) (D : ℕ → ℕ → ℕ)
+pub rounds-invariant : (n cap i t : ℕ) (m : Matrix) (extras : List Message) (m′ : Matrix) → Rounds n cap i m extras m′
+    → (log : List Issue) (h : List Event) (M : ℕ → Matrix) (D : ℕ → ℕ → ℕ)
     → ((x y : ℕ) → M i x y ≡ m x y) → Invariant (record { log = log; history = h; matrix = M; deliv = D })
     → Invariant (record { log = log ++ map (issuedBy t) extras; history = h; matrix = putMatrix M i m′; deliv = D })
 rounds-invariant n cap i t m extras m′ (done _) log h M D e v =
@@ -79,10 +82,12 @@ rounds-invariant n cap i t m extras m′ (round _ _ o l hl ne two rules r) log h
   where
     same : (k x y : ℕ) → Dec (k ≡ i) → putMatrix (putMatrix M i (clear i l m)) i m′ k x y ≡ putMatrix M i m′ k x y
     same k x y (yes q) = rw q (putMatrix-same (putMatrix M i (clear i l m)) i m′ x y ∙ sym (putMatrix-same M i m′ x y))
-    same k x y (no q) = putMatrix-other (putMatrix M i (clear i l m)) i m′ k x y q ∙ putMatrix-other M i (clear i l m) k x y q ∙ sym (putMatrix-other M i m′ k x y q)
+    same k x y (no q) =
+        putMatrix-other (putMatrix M i (clear i l m)) i m′ k x y q ∙ putMatrix-other M i (clear i l m) k x y q ∙ sym (putMatrix-other M i m′ k x y q)
 
 -- the extras of a trim are sound
-pub rounds-sound : (n : ℕ) (caps : ℕ → ℕ) (i : ℕ) (m : Matrix) (extras : List Message) (m′ : Matrix) → i < n → n ≤ caps i → Rounds n (caps i) i m extras m′ → AllSound n caps extras
+pub rounds-sound : (n : ℕ) (caps : ℕ → ℕ) (i : ℕ) (m : Matrix) (extras : List Message) (m′ : Matrix) → i < n → n ≤ caps i
+    → Rounds n (caps i) i m extras m′ → AllSound n caps extras
 rounds-sound n caps i m extras m′ hi hc (done _) p f e = absurd (at-none p f e)
 rounds-sound n caps i m extras m′ hi hc (round _ _ o l hl ne two rules r) p f e = go p e (λ q g d. rounds-sound n caps i (clear i l m) o m′ hi hc r q g d)
   where

@@ -25,13 +25,16 @@ use Rattle.wire.proofs.Tests.{cond-elim}
 pub step-good : (n : ℕ) (caps : ℕ → ℕ) (w : World) (s : Step) → Good n caps w → Good n caps (step n w s)
 unfolding step
 step-good n caps w (sends i to body) g =
-    cond-elim (Good n caps) (ltb i n) (afterStep w i (sends i to body) (send (w .nodes i) to body)) w (λ t. send-good n caps w g i to body (ltb→lt i n t)) (λ _. g)
-step-good n caps w (offers i p) g = cond-elim (Good n caps) (ltb i n) (offerAt w i p (getElem? (w .log) p)) w (λ t. go (ltb→lt i n t) (getElem? (w .log) p) refl) (λ _. g)
+    cond-elim (Good n caps) (ltb i n) (afterStep w i (sends i to body) (send (w .nodes i) to body)) w
+    (λ t. send-good n caps w g i to body (ltb→lt i n t)) (λ _. g)
+step-good n caps w (offers i p) g =
+    cond-elim (Good n caps) (ltb i n) (offerAt w i p (getElem? (w .log) p)) w (λ t. go (ltb→lt i n t) (getElem? (w .log) p) refl) (λ _. g)
   where
     go : i < n → (o : Option Issue) → getElem? (w .log) p ≡ o → Good n caps (offerAt w i p o)
     go hi none e = g
     go hi (some l) e = offer-good n caps w g i hi p l e
-step-good n caps w (delivers i) g = cond-elim (Good n caps) (ltb i n) (afterStep w i (delivers i) (deliver (w .nodes i))) w (λ t. deliver-good n caps w g i (ltb→lt i n t)) (λ _. g)
+step-good n caps w (delivers i) g =
+    cond-elim (Good n caps) (ltb i n) (afterStep w i (delivers i) (deliver (w .nodes i))) w (λ t. deliver-good n caps w g i (ltb→lt i n t)) (λ _. g)
 
 -- a list of steps
 pub run-good : (n : ℕ) (caps : ℕ → ℕ) (w : World) (l : List Step) → Good n caps w → Good n caps (run n w l)
@@ -50,14 +53,17 @@ after-longer w i s r = rw length-snoc (omega arith)
 step-longer : (n : ℕ) (w : World) (s : Step) → Longer w (step n w s)
 unfolding step
 step-longer n w (sends i to body) =
-    cond-elim (λ (z : World). Longer w z) (ltb i n) (afterStep w i (sends i to body) (send (w .nodes i) to body)) w (λ _. after-longer w i (sends i to body) (send (w .nodes i) to body)) (λ _. omega arith)
-step-longer n w (offers i p) = cond-elim (λ (z : World). Longer w z) (ltb i n) (offerAt w i p (getElem? (w .log) p)) w (λ _. go (getElem? (w .log) p)) (λ _. omega arith)
+    cond-elim (λ (z : World). Longer w z) (ltb i n) (afterStep w i (sends i to body) (send (w .nodes i) to body)) w
+    (λ _. after-longer w i (sends i to body) (send (w .nodes i) to body)) (λ _. omega arith)
+step-longer n w (offers i p) =
+    cond-elim (λ (z : World). Longer w z) (ltb i n) (offerAt w i p (getElem? (w .log) p)) w (λ _. go (getElem? (w .log) p)) (λ _. omega arith)
   where
     go : (o : Option Issue) → Longer w (offerAt w i p o)
     go none = omega arith
     go (some l) = after-longer w i (offers i p) (offer (w .nodes i) (l .message))
 step-longer n w (delivers i) =
-    cond-elim (λ (z : World). Longer w z) (ltb i n) (afterStep w i (delivers i) (deliver (w .nodes i))) w (λ _. after-longer w i (delivers i) (deliver (w .nodes i))) (λ _. omega arith)
+    cond-elim (λ (z : World). Longer w z) (ltb i n) (afterStep w i (delivers i) (deliver (w .nodes i))) w
+    (λ _. after-longer w i (delivers i) (deliver (w .nodes i))) (λ _. omega arith)
 
 -- no more events than steps
 pub run-length : (n : ℕ) (w : World) (l : List Step) → length (run n w l .history) ≤ length (w .history) + length l

@@ -47,11 +47,13 @@ pub record Removed (s : List Message) (h : ℕ) (f : Message) (others : List Mes
   pub fewer : length s ≡ suc (length others)
 
 -- what is found passes the test, and its place counts from 1
-pub search-found : (p : Message → Bool) (s : List Message) (k : ℕ) (f : Message) (l : List Message) → search p s ≡ found k f l → (h : ℕ) × T (p f) × Removed s h f l × (k ≡ suc h)
+pub search-found : (p : Message → Bool) (s : List Message) (k : ℕ) (f : Message) (l : List Message) → search p s ≡ found k f l
+    → (h : ℕ) × T (p f) × Removed s h f l × (k ≡ suc h)
 search-found p [] k f l e = let z : _≡_ {A = ℕ} 0 1 = cc in absurd (omega arith)
 search-found p (g ∷ s) k f l e = go (decide (p g)) (search p s) refl (λ k f l e. search-found p s k f l e)
   where
-    go : T (p g) ⊎ T (not (p g)) → (r : Search) → search p s ≡ r → ((k : ℕ) (f : Message) (l : List Message) → search p s ≡ found k f l → (h : ℕ) × T (p f) × Removed s h f l × (k ≡ suc h))
+    go : T (p g) ⊎ T (not (p g)) → (r : Search) → search p s ≡ r
+        → ((k : ℕ) (f : Message) (l : List Message) → search p s ≡ found k f l → (h : ℕ) × T (p f) × Removed s h f l × (k ≡ suc h))
         → (h : ℕ) × T (p f) × Removed (g ∷ s) h f l × (k ≡ suc h)
     go (inl t) r q ih =
         let e′ : found 1 g s ≡ found k f l = sym (cond-yes (p g) (found 1 g s) (past g (search p s)) t) ∙ e in
@@ -71,7 +73,11 @@ search-found p (g ∷ s) k f l e = go (decide (p g)) (search p s) refl (λ k f l
         let r = ih k₁ f₁ l₁ q in (
           suc (r .0),
           rw a at (r .1),
-          record { at = r .2 .at ∙ ap (λ (z : Message). some z) a; rest = λ n. rest n (r .0) l₁ (r .2 .rest) b; fewer = ap suc (r .2 .fewer) ∙ ap (λ (z : List Message). suc (length z)) b },
+          record {
+            at = r .2 .at ∙ ap (λ (z : Message). some z) a;
+            rest = λ n. rest n (r .0) l₁ (r .2 .rest) b;
+            fewer = ap suc (r .2 .fewer) ∙ ap (λ (z : List Message). suc (length z)) b;
+          },
           sym c ∙ ap suc (r .3),
         )
       where
@@ -84,7 +90,8 @@ pub search-absent : (p : Message → Bool) (s : List Message) → search p s ≡
 search-absent p [] e h f a = absurd (at-none h f a)
 search-absent p (g ∷ s) e h f a = go h a (decide (p g)) (search p s) refl (λ q h f a. search-absent p s q h f a)
   where
-    go : (h : ℕ) → getElem? (g ∷ s) h ≡ some f → T (p g) ⊎ T (not (p g)) → (r : Search) → search p s ≡ r → (search p s ≡ absent → (h : ℕ) (f : Message) → getElem? s h ≡ some f → T (not (p f))) → T (not (p f))
+    go : (h : ℕ) → getElem? (g ∷ s) h ≡ some f → T (p g) ⊎ T (not (p g)) → (r : Search) → search p s ≡ r
+        → (search p s ≡ absent → (h : ℕ) (f : Message) → getElem? s h ≡ some f → T (not (p f))) → T (not (p f))
     go h a (inl t) r q ih =
         let e′ : found 1 g s ≡ absent = sym (cond-yes (p g) (found 1 g s) (past g (search p s)) t) ∙ e in
         let z : _≡_ {A = ℕ} 0 1 = cc in absurd (omega arith)

@@ -31,7 +31,8 @@ use Rattle.wire.proofs.Tests.{not-not, cond-elim, neqb→ne, or-not}
 use Rattle.wire.specs.Limits.{maxNodes, maxBody}
 
 -- a send that is not refused, of node i to node j
-module _ (n : ℕ) (caps : ℕ → ℕ) (w : World) (g : Good n caps w) (i : ℕ) (hi : i < n) (j : ℕ) (hj : j < n) (ne : j ≢ i) (body : List ℕ) (short : length body ≤ maxBody) where
+module _ (n : ℕ) (caps : ℕ → ℕ) (w : World) (g : Good n caps w) (i : ℕ) (hi : i < n) (j : ℕ) (hj : j < n) (ne : j ≢ i)
+    (body : List ℕ) (short : length body ≤ maxBody) where
   -- the matrix of the sender
   abbrev m : Matrix
   m = w .nodes i .matrix
@@ -95,7 +96,12 @@ module _ (n : ℕ) (caps : ℕ → ℕ) (w : World) (g : Good n caps w) (i : ℕ
 
   -- by the last step
   user-step : UserStep (afterQuiet (stateOf w) e) (issuedBy t f)
-  user-step = record { last = λ u. sym (length-snoc (w .history) e); event = λ u. (e, at-last (w .history) e, refl, refl); free = λ u p h a b. g .invariant .early p h a b }
+  user-step =
+      record {
+        last = λ u. sym (length-snoc (w .history) e);
+        event = λ u. (e, at-last (w .history) e, refl, refl);
+        free = λ u p h a b. g .invariant .early p h a b;
+      }
 
   -- the step is told, then the user message is issued, then the extras
   send-invariant : Invariant (stateOf (grown w i d (f ∷ r .extras) e))
@@ -103,7 +109,8 @@ module _ (n : ℕ) (caps : ℕ → ℕ) (w : World) (g : Good n caps w) (i : ℕ
       invariant-cong (w .log ++ (issuedBy t f ∷ []) ++ map (issuedBy t) (r .extras)) (w .log ++ map (issuedBy t) (f ∷ r .extras)) (w .history ++ (e ∷ []))
       (putMatrix M₁ i (r .matrix)) (λ k. update (w .nodes) i d k .matrix) (λ k. w .nodes k .deliv) (λ k. update (w .nodes) i d k .deliv)
       (append-assoc (w .log) (issuedBy t f ∷ []) (map (issuedBy t) (r .extras))) (λ k x y. same k x y (ℕ-discrete k i)) (λ k x. same-deliv k x (ℕ-discrete k i))
-      (rounds-invariant n (caps i) i t (clear i j m) (r .extras) (r .matrix) rounds (w .log ++ (issuedBy t f ∷ [])) (w .history ++ (e ∷ [])) M₁ (λ k. w .nodes k .deliv)
+      (rounds-invariant n (caps i) i t (clear i j m) (r .extras) (r .matrix) rounds (w .log ++ (issuedBy t f ∷ []))
+      (w .history ++ (e ∷ [])) M₁ (λ k. w .nodes k .deliv)
       (λ x y. putMatrix-same M₀ i (clear i j m) x y)
       (issue-invariant (afterQuiet (stateOf w) e) (quiet-invariant (stateOf w) (g .invariant) e refl) M₁ (issuedBy t f) user-issuing user-step))
     where
@@ -144,7 +151,18 @@ module _ (n : ℕ) (caps : ℕ → ℕ) (w : World) (g : Good n caps w) (i : ℕ
   send-sound zero h q =
       let z : f ≡ h = cc in
       subst (λ (k : Message). SoundIssue n caps k) z
-      (record { from = hi; to = hj; apart = λ q. ne (sym q); sized = refl; capped = refl; rules = ok .rules; few = ok .few; short = short; lone = λ u. absurd (extra-user (sym u)); bare = λ u. absurd (extra-user (sym u)) })
+      (record {
+        from = hi;
+        to = hj;
+        apart = λ q. ne (sym q);
+        sized = refl;
+        capped = refl;
+        rules = ok .rules;
+        few = ok .few;
+        short = short;
+        lone = λ u. absurd (extra-user (sym u));
+        bare = λ u. absurd (extra-user (sym u));
+      })
   send-sound (suc p) h q = rounds-sound n caps i (clear i j m) (r .extras) (r .matrix) hi (range .capFrom) rounds p h q
 
   -- a send that is not refused
@@ -154,11 +172,13 @@ module _ (n : ℕ) (caps : ℕ → ℕ) (w : World) (g : Good n caps w) (i : ℕ
       (keeps-all w i d e (λ k p q t. let z : _≡_ {A = ℕ} 0 1 = cc in omega arith) refl refl)
 
 -- any send
-pub send-good : (n : ℕ) (caps : ℕ → ℕ) (w : World) → Good n caps w → (i j : ℕ) (body : List ℕ) → i < n → Good n caps (afterStep w i (sends i j body) (send (w .nodes i) j body))
+pub send-good : (n : ℕ) (caps : ℕ → ℕ) (w : World) → Good n caps w → (i j : ℕ) (body : List ℕ) → i < n
+    → Good n caps (afterStep w i (sends i j body) (send (w .nodes i) j body))
 unfolding send
 send-good n caps w g i j body hi =
     cond-elim P (atLimit d) (refuse 5 d) rest (λ _. refuse-good n caps w g i hi (sends i j body) 5)
-    (λ _. cond-elim P (badDestination d j) (refuse 6 d) (cond (longBody body) (refuse 7 d) (sending d j body)) (λ _. refuse-good n caps w g i hi (sends i j body) 6)
+    (λ _. cond-elim P (badDestination d j) (refuse 6 d) (cond (longBody body) (refuse 7 d) (sending d j body))
+    (λ _. refuse-good n caps w g i hi (sends i j body) 6)
     (λ k. cond-elim P (longBody body) (refuse 7 d) (sending d j body) (λ _. refuse-good n caps w g i hi (sends i j body) 7)
     (λ s. go (nltb→le 64 (length body) s) (or-not (eqb j (d .me)) (not (ltb j (d .n))) k))))
   where

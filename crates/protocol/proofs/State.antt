@@ -71,7 +71,8 @@ pub record IssuedAs (log : List Issue) (x y k : ℕ) : Type 0 where
 pub record Invariant (w : State) : Type 0 where
   pub early : (p : ℕ) (f : Issue) → At w p f → IsUser f → f .step < length (w .history)
   pub oneEach : (p q : ℕ) (f g : Issue) → At w p f → At w q g → IsUser f → IsUser g → f .step ≡ g .step → p ≡ q
-  pub distinct : (p q : ℕ) (f g : Issue) → At w p f → At w q g → f .message .from ≡ g .message .from → f .message .to ≡ g .message .to → number (f .message) ≡ number (g .message) → p ≡ q
+  pub distinct : (p q : ℕ) (f g : Issue) → At w p f → At w q g → f .message .from ≡ g .message .from → f .message .to ≡ g .message .to
+      → number (f .message) ≡ number (g .message) → p ≡ q
   pub numbered : (p : ℕ) (f : Issue) → At w p f → number (f .message) ≤ w .matrix (f .message .from) (f .message .from) (f .message .to)
   pub kept : (i x y k : ℕ) → w .matrix i x y ≡ suc k → IssuedAs (w .log) x y (suc k)
   pub carried : (p : ℕ) (f : Issue) → At w p f → (x y k : ℕ) → f .message .entries x y ≡ suc k → (r : IssuedAs (w .log) x y (suc k)) × (r .place < p)
@@ -80,13 +81,16 @@ pub record Invariant (w : State) : Type 0 where
   pub seen : (p : ℕ) (f : Issue) → At w p f → Past w f → (t : ℕ) × DeliveredAt (w .history) t (f .message)
   pub told : (t : ℕ) (e : Event) (k : Label) → getElem? (w .history) t ≡ some e → delivery (e .answer) ≡ some k → k .number ≤ w .deliv (e .node) (k .from)
   pub later : (p b : ℕ) (f : Issue) → At w p f → IsUser f → DeliveredAt (w .history) b (f .message) → f .step < b
-  pub once : (t u : ℕ) (e e′ : Event) (k k′ : Label) → getElem? (w .history) t ≡ some e → getElem? (w .history) u ≡ some e′ → delivery (e .answer) ≡ some k → delivery (e′ .answer) ≡ some k′
+  pub once : (t u : ℕ) (e e′ : Event) (k k′ : Label) → getElem? (w .history) t ≡ some e → getElem? (w .history) u ≡ some e′
+      → delivery (e .answer) ≡ some k → delivery (e′ .answer) ≡ some k′
       → e .node ≡ e′ .node → k .from ≡ k′ .from → k .number ≡ k′ .number → t ≡ u
   pub own : (i x : ℕ) → w .matrix i x i ≡ 0
   pub nodeCovers : (p b i : ℕ) (m : Issue) (e : Event) → At w p m → IsUser m → getElem? (w .history) b ≡ some e → accepted (e .answer) ≡ true → e .node ≡ i
       → UpTo w (m .step) b → Accounted w m (λ x. w .matrix i x (m .message .to))
-  pub messageCovers : (p q : ℕ) (m f : Issue) → At w p m → At w q f → IsUser m → IsUser f → Before w (m .step) (f .step) → Accounted w m (λ x. f .message .entries x (m .message .to))
-  pub causal : (p q u : ℕ) (m f : Issue) → At w p m → At w q f → IsUser m → IsUser f → m .message .to ≡ f .message .to → Before w (m .step) (f .step) → DeliveredAt (w .history) u (f .message)
+  pub messageCovers : (p q : ℕ) (m f : Issue) → At w p m → At w q f → IsUser m → IsUser f → Before w (m .step) (f .step)
+      → Accounted w m (λ x. f .message .entries x (m .message .to))
+  pub causal : (p q u : ℕ) (m f : Issue) → At w p m → At w q f → IsUser m → IsUser f → m .message .to ≡ f .message .to → Before w (m .step) (f .step)
+      → DeliveredAt (w .history) u (f .message)
       → (t : ℕ) × (t < u) × DeliveredAt (w .history) t (m .message)
 
 -- a larger column covers as much
@@ -104,10 +108,12 @@ pub covers-delivered : (w : State) → Invariant w → (m : Issue) (c : ℕ → 
 covers-delivered w v m c le (counted _ h) = omega (arith, le (m .message .from))
 covers-delivered w v m c le (through _ q g at d h r) =
     covers-delivered w v m (λ x. g .message .entries x (m .message .to))
-    (λ x. rw (← d) (v .closed q g at (subst (λ (y : ℕ). number (g .message) ≤ w .deliv y (g .message .from)) (sym d) (omega (arith, le (g .message .from)))) x)) r
+    (λ x. rw (← d) (v .closed q g at
+    (subst (λ (y : ℕ). number (g .message) ≤ w .deliv y (g .message .from)) (sym d) (omega (arith, le (g .message .from)))) x)) r
 
 -- happened before goes forward, where deliveries come after their sends
-pub before-forward : (log : List Issue) (h : List Event) → ((p b : ℕ) (f : Issue) → getElem? log p ≡ some f → IsUser f → DeliveredAt h b (f .message) → f .step < b) → (a b : ℕ) → HappenedBefore log h a b → a < b
+pub before-forward : (log : List Issue) (h : List Event)
+    → ((p b : ℕ) (f : Issue) → getElem? log p ≡ some f → IsUser f → DeliveredAt h b (f .message) → f .step < b) → (a b : ℕ) → HappenedBefore log h a b → a < b
 before-forward log h v a b (sameNode _ _ e f l _ _ _ _ _) = l
 before-forward log h v a b (message _ _ p f at u s d) = rw (← s) (v p b f at u d)
 before-forward log h v a c (chain _ b _ l r) = omega (arith, before-forward log h v a b l, before-forward log h v b c r)

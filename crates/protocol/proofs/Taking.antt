@@ -32,7 +32,8 @@ use Rattle.wire.proofs.Tests.{cond-elim}
 
 -- the delivery of the held message of issue p, at place h of its destination's queue
 module _ (n : ℕ) (caps : ℕ → ℕ) (w : World) (g : Good n caps w) (p : ℕ) (G : Issue) (at : IssueAt w p G) (k h : ℕ) (l : List Message)
-    (removed : Removed (w .nodes (G .message .to) .held) h (G .message) l) (deliverable : (x : ℕ) → x < 12 → G .message .entries x (G .message .to) ≤ w .nodes (G .message .to) .deliv x) where
+    (removed : Removed (w .nodes (G .message .to) .held) h (G .message) l)
+    (deliverable : (x : ℕ) → x < 12 → G .message .entries x (G .message .to) ≤ w .nodes (G .message .to) .deliv x) where
   -- the message
   abbrev f : Message
   f = G .message
@@ -135,10 +136,13 @@ module _ (n : ℕ) (caps : ℕ → ℕ) (w : World) (g : Good n caps w) (p : ℕ
   taking-invariant : Invariant (stateOf (grown w i d′ (r .extras) e))
   taking-invariant =
       invariant-cong (w .log ++ map (issuedBy t) (r .extras)) (w .log ++ map (issuedBy t) (r .extras)) (w .history ++ (e ∷ []))
-      (putMatrix (putMatrix M₀ i m₁) i (r .matrix)) (λ k. update (w .nodes) i d′ k .matrix) (λ k. update (w .nodes) i d′ k .deliv) (λ k. update (w .nodes) i d′ k .deliv)
+      (putMatrix (putMatrix M₀ i m₁) i (r .matrix)) (λ k. update (w .nodes) i d′ k .matrix)
+      (λ k. update (w .nodes) i d′ k .deliv) (λ k. update (w .nodes) i d′ k .deliv)
       refl (λ k x y. same k x y (ℕ-discrete k i)) (λ k x. refl)
-      (rounds-invariant n (caps i) i t m₁ (r .extras) (r .matrix) rounds (w .log) (w .history ++ (e ∷ [])) (putMatrix M₀ i m₁) (λ k. update (w .nodes) i d′ k .deliv)
-      (λ x y. putMatrix-same M₀ i m₁ x y) (deliver-invariant (stateOf w) (g .invariant) G e (putMatrix M₀ i m₁) (λ k. update (w .nodes) i d′ k .deliv) delivering))
+      (rounds-invariant n (caps i) i t m₁ (r .extras) (r .matrix) rounds (w .log) (w .history ++ (e ∷ []))
+      (putMatrix M₀ i m₁) (λ k. update (w .nodes) i d′ k .deliv)
+      (λ x y. putMatrix-same M₀ i m₁ x y)
+      (deliver-invariant (stateOf w) (g .invariant) G e (putMatrix M₀ i m₁) (λ k. update (w .nodes) i d′ k .deliv) delivering))
     where
       same : (k x y : ℕ) → Dec (k ≡ i) → putMatrix (putMatrix M₀ i m₁) i (r .matrix) k x y ≡ update (w .nodes) i d′ k .matrix x y
       same k x y (yes q) = rw (q, update-same (w .nodes) i d′) (putMatrix-same (putMatrix M₀ i m₁) i (r .matrix) x y)
@@ -150,7 +154,14 @@ module _ (n : ℕ) (caps : ℕ → ℕ) (w : World) (g : Good n caps w) (p : ℕ
     where
       go : (m₁ i y ≡ m i y) ⊎ ((y ≢ i) × (m₁ i y ≡ max (m i y) (f .entries i y))) → r .matrix i y ≤ suc t
       go (inl a) = omega (arith, (rounds-row n (caps i) i m₁ (r .extras) (r .matrix) hi (range .atMost12) rounds y) .0, ok .row y)
-      go (inr a) = omega (arith, (rounds-row n (caps i) i m₁ (r .extras) (r .matrix) hi (range .atMost12) rounds y) .0, ok .row y, a .1, entry-bound (stateOf w) (g .invariant) p G at i y)
+      go (inr a) =
+          omega (
+            arith,
+            (rounds-row n (caps i) i m₁ (r .extras) (r .matrix) hi (range .atMost12) rounds y) .0,
+            ok .row y,
+            a .1,
+            entry-bound (stateOf w) (g .invariant) p G at i y,
+          )
 
   -- what is left of the queue was in it
   held : (q : ℕ) (a : Message) → getElem? l q ≡ some a → getElem? (w .nodes i .held) (skip h q) ≡ some a
@@ -208,21 +219,27 @@ module _ (n : ℕ) (caps : ℕ → ℕ) (w : World) (g : Good n caps w) (p : ℕ
           go (no z) = let u = unskip h (q .0) z in inr (u .0, removed .rest (u .0) ∙ rw (u .1) (q .1))
 
   -- a delivery
-  pub taking-good : Good n caps (afterStep w (G .message .to) (delivers (G .message .to)) (conclude (nodeAt n caps w (G .message .to)) (found k (G .message) l)))
-  taking-good = good-grown n caps w g i d′ (r .extras) e refl taking-invariant taking-node (rounds-sound n caps i m₁ (r .extras) (r .matrix) hi (range .capFrom) rounds) taking-keeps
+  pub taking-good : Good n caps
+      (afterStep w (G .message .to) (delivers (G .message .to)) (conclude (nodeAt n caps w (G .message .to)) (found k (G .message) l)))
+  taking-good =
+      good-grown n caps w g i d′ (r .extras) e refl taking-invariant taking-node
+      (rounds-sound n caps i m₁ (r .extras) (r .matrix) hi (range .capFrom) rounds) taking-keeps
 
 -- whatever the search found
-conclude-good : (n : ℕ) (caps : ℕ → ℕ) (w : World) → Good n caps w → (i : ℕ) → i < n → (r : Search) → search (deliverable (nodeAt n caps w i)) (w .nodes i .held) ≡ r
+conclude-good : (n : ℕ) (caps : ℕ → ℕ) (w : World) → Good n caps w → (i : ℕ) → i < n → (r : Search)
+    → search (deliverable (nodeAt n caps w i)) (w .nodes i .held) ≡ r
     → Good n caps (afterStep w i (delivers i) (conclude (nodeAt n caps w i) r))
 conclude-good n caps w g i hi absent e =
-    subst (λ (z : Node). Good n caps (grown w i z [] (record { node = i; step = delivers i; answer = nothing (length (w .nodes i .held)) }))) (node-eq n caps w g i hi)
+    subst (λ (z : Node). Good n caps
+    (grown w i z [] (record { node = i; step = delivers i; answer = nothing (length (w .nodes i .held)) }))) (node-eq n caps w g i hi)
     (still-good n caps w g i hi (delivers i) (nothing (length (w .nodes i .held))) refl refl refl (λ j p q t. let z : _≡_ {A = ℕ} 0 1 = cc in omega arith))
 conclude-good n caps w g i hi (found k f l) e =
     let a = search-found (deliverable (nodeAt n caps w i)) (w .nodes i .held) k f l e in
     let b = g .node i hi .queue .from (a .0) f (a .2 .at) in
     go (b .issue) (b .g) (b .logged) i f (b .message) (g .node i hi .queue .to (a .0) f (a .2 .at)) (a .0) (a .2) (deliverable-le (nodeAt n caps w i) f (a .1))
   where
-    go : (p : ℕ) (G : Issue) → IssueAt w p G → (i : ℕ) (f : Message) → G .message ≡ f → f .to ≡ i → (h : ℕ) → Removed (w .nodes i .held) h f l → ((x : ℕ) → x < 12 → f .entries x i ≤ w .nodes i .deliv x)
+    go : (p : ℕ) (G : Issue) → IssueAt w p G → (i : ℕ) (f : Message) → G .message ≡ f → f .to ≡ i → (h : ℕ) → Removed (w .nodes i .held) h f l
+        → ((x : ℕ) → x < 12 → f .entries x i ≤ w .nodes i .deliv x)
         → Good n caps (afterStep w i (delivers i) (conclude (nodeAt n caps w i) (found k f l)))
     go p G at i f q d h out ready =
         let c : G .message .to ≡ i = ap (λ (z : Message). z .to) q ∙ d in
@@ -230,7 +247,8 @@ conclude-good n caps w g i hi (found k f l) e =
         (subst (λ (z : ℕ). Good n caps (afterStep w z (delivers z) (conclude (nodeAt n caps w z) (found k (G .message) l)))) c
         (taking-good n caps w g p G at k h l
         (subst (λ (z : ℕ). Removed (w .nodes z .held) h (G .message) l) (sym c) (subst (λ (z : Message). Removed (w .nodes i .held) h z l) (sym q) out))
-        (subst (λ (z : ℕ). (x : ℕ) → x < 12 → G .message .entries x z ≤ w .nodes z .deliv x) (sym c) (subst (λ (z : Message). (x : ℕ) → x < 12 → z .entries x i ≤ w .nodes i .deliv x) (sym q) ready))))
+        (subst (λ (z : ℕ). (x : ℕ) → x < 12 → G .message .entries x z ≤ w .nodes z .deliv x) (sym c)
+        (subst (λ (z : Message). (x : ℕ) → x < 12 → z .entries x i ≤ w .nodes i .deliv x) (sym q) ready))))
 
 -- any deliver
 pub deliver-good : (n : ℕ) (caps : ℕ → ℕ) (w : World) → Good n caps w → (i : ℕ) → i < n → Good n caps (afterStep w i (delivers i) (deliver (w .nodes i)))

@@ -8,7 +8,8 @@ use native.Mathlib.Decide.{ℕ-discrete, decLe}
 use native.Mathlib.Omega.{arith}
 use lib.Dec.{T, leb, leb→le, le→leb, nleb→lt}
 use lib.ListN.{length}
-use Rattle.matrix.proofs.Columns.{MatrixRules, fullest-lt, fullest-two, two-below, two-other, clear-rules, clear-one, clear-same, crowded, crowded-le, crowded-down, crowded-some}
+use Rattle.matrix.proofs.Columns.{MatrixRules, fullest-lt, fullest-two, two-below, two-other, clear-rules, clear-one}
+use Rattle.matrix.proofs.Columns.{clear-same, crowded, crowded-le, crowded-down, crowded-some}
 use Rattle.matrix.proofs.Cleared.{clear-lower, clear-row}
 use Rattle.matrix.proofs.Matrix.{clear-mine, clear-keep}
 use Rattle.matrix.specs.Matrix.{Matrix, columnCount, count, fullest, clear}
@@ -38,13 +39,16 @@ full n me cap m hi hc f h =
     record { two = two; below = below; other = other; rules = clear-rules n me (fullest m) m f hi below other }
 
 -- trim is such a run
-pub trim-rounds : (k n me cap : ℕ) (m : Matrix) → me < n → n ≤ cap → MatrixRules n me m → Rounds n cap me m ((trimFor k me n cap m) .extras) ((trimFor k me n cap m) .matrix)
+pub trim-rounds : (k n me cap : ℕ) (m : Matrix) → me < n → n ≤ cap → MatrixRules n me m
+    → Rounds n cap me m ((trimFor k me n cap m) .extras) ((trimFor k me n cap m) .matrix)
 unfolding trimFor
 trim-rounds zero n me cap m hi hc f = done m
 trim-rounds (suc k) n me cap m hi hc f =
-    cond-elim (λ (t : Trimmed). Rounds n cap me m (t .extras) (t .matrix)) (leb (count m) cap) (untouched m) (issuing (extraMessage me (fullest m) n cap m) rest)
+    cond-elim (λ (t : Trimmed). Rounds n cap me m (t .extras) (t .matrix)) (leb (count m) cap) (untouched m)
+    (issuing (extraMessage me (fullest m) n cap m) rest)
     (λ t. done m)
-    (λ t. let c = full n me cap m hi hc f (nleb→lt (count m) cap t) in round m (rest .matrix) (rest .extras) (fullest m) (c .below) (c .other) (c .two) f (trim-rounds k n me cap (clear me (fullest m) m) hi hc (c .rules)))
+    (λ t. let c = full n me cap m hi hc f (nleb→lt (count m) cap t) in
+    round m (rest .matrix) (rest .extras) (fullest m) (c .below) (c .other) (c .two) f (trim-rounds k n me cap (clear me (fullest m) m) hi hc (c .rules)))
   where
     rest : Trimmed
     rest = trimFor k me n cap (clear me (fullest m) m)
@@ -58,19 +62,25 @@ trim-within zero n me cap m hi hn hc f h = go (decLe (count m) cap)
     go (yes l) = l
     go (no l) = let c = full n me cap m hi hc f (omega arith) in absurd (omega (arith, crowded-some (fullest m) m (fullest-lt m) (c .two)))
 trim-within (suc k) n me cap m hi hn hc f h =
-    cond-elim (λ (t : Trimmed). count (t .matrix) ≤ cap) (leb (count m) cap) (untouched m) (issuing (extraMessage me (fullest m) n cap m) (trimFor k me n cap (clear me (fullest m) m)))
+    cond-elim (λ (t : Trimmed). count (t .matrix) ≤ cap) (leb (count m) cap) (untouched m)
+    (issuing (extraMessage me (fullest m) n cap m) (trimFor k me n cap (clear me (fullest m) m)))
     (λ t. leb→le (count m) cap t)
-    (λ t. let c = full n me cap m hi hc f (nleb→lt (count m) cap t) in trim-within k n me cap (clear me (fullest m) m) hi hn hc (c .rules) (omega (arith, crowded-down me (fullest m) m (omega arith) (fullest-lt m) (c .two))))
+    (λ t. let c = full n me cap m hi hc f (nleb→lt (count m) cap t) in
+    trim-within k n me cap (clear me (fullest m) m) hi hn hc (c .rules) (omega (arith, crowded-down me (fullest m) m (omega arith) (fullest-lt m) (c .two))))
 
 -- twelve rounds end within the cap
 pub trim-ends : (n me cap : ℕ) (m : Matrix) → me < n → n ≤ 12 → n ≤ cap → MatrixRules n me m → count ((trimFor 12 me n cap m) .matrix) ≤ cap
 trim-ends n me cap m hi hn hc f = trim-within 12 n me cap m hi hn hc f (crowded-le m)
 
 -- and a further round would change nothing: the rounds are those of the loop
-pub trim-enough : (k n me cap : ℕ) (m : Matrix) → me < n → n ≤ 12 → n ≤ cap → MatrixRules n me m → crowded m ≤ k → trimFor (suc k) me n cap m ≡ trimFor k me n cap m
+pub trim-enough : (k n me cap : ℕ) (m : Matrix) → me < n → n ≤ 12 → n ≤ cap → MatrixRules n me m → crowded m ≤ k
+    → trimFor (suc k) me n cap m ≡ trimFor k me n cap m
 unfolding trimFor
-trim-enough zero n me cap m hi hn hc f h = cond-yes (leb (count m) cap) (untouched m) (issuing (extraMessage me (fullest m) n cap m) (untouched (clear me (fullest m) m))) (le→leb (count m) cap (trim-within 0 n me cap m hi hn hc f h))
-trim-enough (suc k) n me cap m hi hn hc f h = go (decide (leb (count m) cap)) (λ (r : MatrixRules n me m₁) (q : crowded m₁ ≤ k). trim-enough k n me cap m₁ hi hn hc r q)
+trim-enough zero n me cap m hi hn hc f h =
+    cond-yes (leb (count m) cap) (untouched m) (issuing (extraMessage me (fullest m) n cap m) (untouched (clear me (fullest m) m)))
+    (le→leb (count m) cap (trim-within 0 n me cap m hi hn hc f h))
+trim-enough (suc k) n me cap m hi hn hc f h =
+    go (decide (leb (count m) cap)) (λ (r : MatrixRules n me m₁) (q : crowded m₁ ≤ k). trim-enough k n me cap m₁ hi hn hc r q)
   where
     one : Trimmed → Trimmed
     one t = issuing (extraMessage me (fullest m) n cap m) t
@@ -78,14 +88,19 @@ trim-enough (suc k) n me cap m hi hn hc f h = go (decide (leb (count m) cap)) (�
     m₁ : Matrix
     m₁ = clear me (fullest m) m
 
-    go : T (leb (count m) cap) ⊎ T (not (leb (count m) cap)) → (MatrixRules n me m₁ → crowded m₁ ≤ k → trimFor (suc k) me n cap m₁ ≡ trimFor k me n cap m₁) → trimFor (suc (suc k)) me n cap m ≡ trimFor (suc k) me n cap m
-    go (inl t) ih = cond-yes (leb (count m) cap) (untouched m) (one (trimFor (suc k) me n cap m₁)) t ∙ sym (cond-yes (leb (count m) cap) (untouched m) (one (trimFor k me n cap m₁)) t)
+    go : T (leb (count m) cap) ⊎ T (not (leb (count m) cap)) → (MatrixRules n me m₁ → crowded m₁ ≤ k → trimFor (suc k) me n cap m₁ ≡ trimFor k me n cap m₁)
+        → trimFor (suc (suc k)) me n cap m ≡ trimFor (suc k) me n cap m
+    go (inl t) ih =
+        cond-yes (leb (count m) cap) (untouched m) (one (trimFor (suc k) me n cap m₁)) t
+        ∙ sym (cond-yes (leb (count m) cap) (untouched m) (one (trimFor k me n cap m₁)) t)
     go (inr t) ih =
         let c = full n me cap m hi hc f (nleb→lt (count m) cap t) in
-        ap (λ (z : Trimmed). cond (leb (count m) cap) (untouched m) (one z)) (ih (c .rules) (omega (arith, crowded-down me (fullest m) m (omega arith) (fullest-lt m) (c .two))))
+        ap (λ (z : Trimmed). cond (leb (count m) cap) (untouched m) (one z))
+        (ih (c .rules) (omega (arith, crowded-down me (fullest m) m (omega arith) (fullest-lt m) (c .two))))
 
 -- the matrix after the rounds keeps the rules
-pub rounds-rules : (n cap me : ℕ) (m : Matrix) (extras : List Message) (m′ : Matrix) → me < n → MatrixRules n me m → Rounds n cap me m extras m′ → MatrixRules n me m′
+pub rounds-rules : (n cap me : ℕ) (m : Matrix) (extras : List Message) (m′ : Matrix) → me < n → MatrixRules n me m
+    → Rounds n cap me m extras m′ → MatrixRules n me m′
 rounds-rules n cap me m extras m′ hi f (done _) = f
 rounds-rules n cap me m extras m′ hi f (round _ _ o l hl ne two _ r) = rounds-rules n cap me (clear me l m) o m′ hi (clear-rules n me l m f hi hl ne) r
 
@@ -95,7 +110,8 @@ pub rounds-row : (n cap me : ℕ) (m : Matrix) (extras : List Message) (m′ : M
 rounds-row n cap me m extras m′ hi hn (done _) y = (omega arith, λ _. refl)
 rounds-row n cap me m extras m′ hi hn (round _ _ o l hl ne two _ r) y = go (ℕ-discrete y l) (rounds-row n cap me (clear me l m) o m′ hi hn r y)
   where
-    go : Dec (y ≡ l) → (m′ me y ≤ suc (clear me l m me y)) × (columnCount (clear me l m) y ≤ 1 → m′ me y ≡ clear me l m me y) → (m′ me y ≤ suc (m me y)) × (columnCount m y ≤ 1 → m′ me y ≡ m me y)
+    go : Dec (y ≡ l) → (m′ me y ≤ suc (clear me l m me y)) × (columnCount (clear me l m) y ≤ 1 → m′ me y ≡ clear me l m me y)
+        → (m′ me y ≤ suc (m me y)) × (columnCount m y ≤ 1 → m′ me y ≡ m me y)
     go (yes e) h =
         let q : m′ me y ≡ clear me l m me y = h .1 (rw e (omega (arith, clear-one me l m (omega arith)))) in
         let q′ : clear me l m me y ≡ suc (m me y) = rw e (clear-mine me l m) in
@@ -109,13 +125,15 @@ rounds-grows n cap me m extras m′ (round _ _ o l hl ne two _ r) y = omega (ari
 
 pub rounds-lower : (n cap me : ℕ) (m : Matrix) (extras : List Message) (m′ : Matrix) → Rounds n cap me m extras m′ → (x y : ℕ) → x ≢ me → m′ x y ≤ m x y
 rounds-lower n cap me m extras m′ (done _) x y h = omega arith
-rounds-lower n cap me m extras m′ (round _ _ o l hl ne two _ r) x y h = omega (arith, clear-lower me l m x y h, rounds-lower n cap me (clear me l m) o m′ r x y h)
+rounds-lower n cap me m extras m′ (round _ _ o l hl ne two _ r) x y h =
+    omega (arith, clear-lower me l m x y h, rounds-lower n cap me (clear me l m) o m′ r x y h)
 
 -- at most one message is issued in a round
 pub trim-few : (k me n cap : ℕ) (m : Matrix) → length (trimFor k me n cap m .extras) ≤ k
 unfolding trimFor
 trim-few zero me n cap m = omega arith
 trim-few (suc k) me n cap m =
-    cond-elim (λ (t : Trimmed). length (t .extras) ≤ suc k) (leb (count m) cap) (untouched m) (issuing (extraMessage me (fullest m) n cap m) (trimFor k me n cap (clear me (fullest m) m)))
+    cond-elim (λ (t : Trimmed). length (t .extras) ≤ suc k) (leb (count m) cap) (untouched m)
+    (issuing (extraMessage me (fullest m) n cap m) (trimFor k me n cap (clear me (fullest m) m)))
     (λ _. omega arith)
     (λ _. omega (arith, trim-few k me n cap (clear me (fullest m) m)))

@@ -41,7 +41,8 @@ conclude d absent = record { answer = nothing (length (d .held)); node = d }
 conclude d (found k m others) =
     record {
       answer = delivered (label m) k (m .body) ((learn (m .kind) d (m .entries)) .extras);
-      node = record { me = d .me; n = d .n; cap = d .cap; matrix = (learn (m .kind) d (m .entries)) .matrix; deliv = countUp (m .from) (d .deliv); held = others };
+      node =
+          record { me = d .me; n = d .n; cap = d .cap; matrix = (learn (m .kind) d (m .entries)) .matrix; deliv = countUp (m .from) (d .deliv); held = others };
     }
 
 -- deliver, after its one check

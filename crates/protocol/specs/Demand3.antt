@@ -57,7 +57,8 @@ heldAt w j = answersAt offersAccepted j (w .history) - answersAt deliveries j (w
 -- the queue of node j holds exactly what the history says is held there: as many, each of them, and each once
 pub record QueueAgrees (w : World) (j : ℕ) : Type 0 where
   pub number : length (w .nodes j .held) ≡ heldAt w j
-  pub each : (h : ℕ) (m : Message) → getElem? (w .nodes j .held) h ≡ some m → (p : ℕ) × (g : Issue) × IssueAt w p g × (g .message ≡ m) × (m .to ≡ j) × Held w p m
+  pub each : (h : ℕ) (m : Message) → getElem? (w .nodes j .held) h ≡ some m
+      → (p : ℕ) × (g : Issue) × IssueAt w p g × (g .message ≡ m) × (m .to ≡ j) × Held w p m
   pub all : (p : ℕ) (g : Issue) → IssueAt w p g → g .message .to ≡ j → Held w p (g .message) → (h : ℕ) × (getElem? (w .nodes j .held) h ≡ some (g .message))
   pub apart : (h k : ℕ) (m : Message) → getElem? (w .nodes j .held) h ≡ some m → getElem? (w .nodes j .held) k ≡ some m → h ≡ k
 
@@ -86,9 +87,11 @@ pub record DeliversNew (w : World) (j : ℕ) : Type 0 where
 -- queue: what is held by the history is what the node's own queue holds
 pub record Demand3For (n : ℕ) (caps : ℕ → ℕ) (w : World) : Type 0 where
   pub causal : (p q u : ℕ) (g h : Issue) → IssueAt w p g → IssueAt w q h → g .message .kind ≡ user → h .message .kind ≡ user → g .message .to ≡ h .message .to
-      → HappenedBefore (w .log) (w .history) (g .step) (h .step) → DeliveredAt (w .history) u (h .message) → (t : ℕ) × (t < u) × DeliveredAt (w .history) t (g .message)
+      → HappenedBefore (w .log) (w .history) (g .step) (h .step) → DeliveredAt (w .history) u (h .message)
+      → (t : ℕ) × (t < u) × DeliveredAt (w .history) t (g .message)
   pub once : (p t u : ℕ) (g : Issue) → IssueAt w p g → DeliveredAt (w .history) t (g .message) → DeliveredAt (w .history) u (g .message) → t ≡ u
-  pub distinct : (p q : ℕ) (g h : Issue) → IssueAt w p g → IssueAt w q h → g .message .from ≡ h .message .from → g .message .to ≡ h .message .to → number (g .message) ≡ number (h .message) → p ≡ q
+  pub distinct : (p q : ℕ) (g h : Issue) → IssueAt w p g → IssueAt w q h → g .message .from ≡ h .message .from → g .message .to ≡ h .message .to
+      → number (g .message) ≡ number (h .message) → p ≡ q
   pub kept : (i : ℕ) → i < n → count (w .nodes i .matrix) ≤ caps i
   pub carried : (p : ℕ) (g : Issue) → IssueAt w p g → count (g .message .entries) ≤ caps (g .message .from)
   pub exists : (p : ℕ) (g : Issue) → IssueAt w p g → ¬ Delivered w (g .message) → (q : ℕ) × (h : Issue) × Earliest w q h

@@ -18,7 +18,9 @@ pub record DeliveredAt (history : List Event) (t : ℕ) (m : Message) : Type 0 w
 
 -- step a happened before step b: both are accepted steps of one node, a earlier; or a sent the user message that b delivers; or a chain of these
 pub data HappenedBefore (log : List Issue) (history : List Event) : ℕ → ℕ → Type 0 where
-  sameNode : (a b : ℕ) (e f : Event) → a < b → getElem? history a ≡ some e → getElem? history b ≡ some f → accepted (e .answer) ≡ true → accepted (f .answer) ≡ true → e .node ≡ f .node
+  sameNode : (a b : ℕ) (e f : Event) → a < b → getElem? history a ≡ some e → getElem? history b ≡ some f → accepted (e .answer) ≡ true
+      → accepted (f .answer) ≡ true → e .node ≡ f .node
       → HappenedBefore log history a b
-  message : (a b p : ℕ) (g : Issue) → getElem? log p ≡ some g → g .message .kind ≡ user → g .step ≡ a → DeliveredAt history b (g .message) → HappenedBefore log history a b
+  message : (a b p : ℕ) (g : Issue) → getElem? log p ≡ some g → g .message .kind ≡ user → g .step ≡ a
+      → DeliveredAt history b (g .message) → HappenedBefore log history a b
   chain : (a b c : ℕ) → HappenedBefore log history a b → HappenedBefore log history b c → HappenedBefore log history a c

@@ -63,7 +63,8 @@ refuseSetUp k = record { answer = setUpAnswer.Refused k; node = freshRecord 0 0 
 abbrev acceptSetUp : ℕ → ℕ → ℕ → SetUp
 acceptSetUp me n cap = record { answer = setUpAnswer.Ready; node = freshRecord me n cap }
 
-set-up-by : (me n cap : ℕ) → setUp me n cap ≡ cond (eqb (firstMet (setUpChecks me n cap)) 0) (acceptSetUp me n cap) (refuseSetUp (firstMet (setUpChecks me n cap)))
+set-up-by : (me n cap : ℕ) → setUp me n cap
+    ≡ cond (eqb (firstMet (setUpChecks me n cap)) 0) (acceptSetUp me n cap) (refuseSetUp (firstMet (setUpChecks me n cap)))
 unfolding setUp
 set-up-by me n cap = go (inRange me n cap)
   where
@@ -77,8 +78,12 @@ set-up-says me n cap =
     let c = setUp me n cap in
     record {
       numbers = refl;
-      answers = by-first setUpAnswer.Refused setUpNumber l setUpAnswer.Ready (c .answer) (omega arith, tt) (part (λ (s : SetUp). s .answer) c (firstMet l) (acceptSetUp me n cap) refuseSetUp (set-up-by me n cap)) (λ k. refl) refl ready-not;
-      allZero = λ h. ap (λ (s : SetUp). s .node) (refused (λ (s : SetUp). setUpNumber (s .answer)) c (firstMet l) (acceptSetUp me n cap) refuseSetUp (set-up-by me n cap) refl h);
+      answers =
+          by-first setUpAnswer.Refused setUpNumber l setUpAnswer.Ready (c .answer) (omega arith, tt)
+          (part (λ (s : SetUp). s .answer) c (firstMet l) (acceptSetUp me n cap) refuseSetUp (set-up-by me n cap)) (λ k. refl) refl ready-not;
+      allZero =
+          λ h. ap (λ (s : SetUp). s .node)
+          (refused (λ (s : SetUp). setUpNumber (s .answer)) c (firstMet l) (acceptSetUp me n cap) refuseSetUp (set-up-by me n cap) refl h);
     }
 
 -- ---- send
@@ -86,7 +91,8 @@ sent-not : (bytes extras k : ℕ) → ¬ (sendAnswer.Sent bytes extras ≡ sendA
 sent-not bytes extras k e = let z : _≡_ {A = ℕ} 0 1 = cc in absurd (omega arith)
 
 send-by : (r : Record) (to : ℕ) (body out : List ℕ)
-    → sendCall r to body out ≡ cond (eqb (firstMet (sendChecks r to body out)) 0) (acceptSend r out (sending (nodeOf r []) to body)) (refuseSend (firstMet (sendChecks r to body out)) r out)
+    → sendCall r to body out ≡ cond (eqb (firstMet (sendChecks r to body out)) 0) (acceptSend r out (sending (nodeOf r []) to body))
+    (refuseSend (firstMet (sendChecks r to body out)) r out)
 unfolding sendRefusal
 send-by r to body out = send-by-refusal r to body out
 
@@ -96,11 +102,15 @@ send-says r to body out =
     let c = sendCall r to body out in
     let x = acceptSend r out (sending (nodeOf r []) to body) in
     let g : ℕ → AfterSend = λ k. refuseSend k r out in
-    let left : ¬ (sendNumber (c .result .answer) ≡ 0) → c ≡ g (firstMet l) = refused (λ (s : AfterSend). sendNumber (s .result .answer)) c (firstMet l) x g (send-by r to body out) refl in
+    let left : ¬ (sendNumber (c .result .answer) ≡ 0) → c ≡ g (firstMet l)
+    = refused (λ (s : AfterSend). sendNumber (s .result .answer)) c (firstMet l) x g (send-by r to body out) refl in
     record {
       numbers = refl;
       answers =
-          by-first sendAnswer.Refused sendNumber l (x .result .answer) (c .result .answer) (omega arith, (omega arith, (omega arith, (omega arith, (omega arith, tt)))))
+          by-first sendAnswer.Refused sendNumber l (x .result .answer) (c .result .answer) (
+            omega arith,
+            (omega arith, (omega arith, (omega arith, (omega arith, tt)))),
+          )
           (part (λ (s : AfterSend). s .result .answer) c (firstMet l) x g (send-by r to body out)) (λ k. refl) refl (sent-not _ _);
       same = λ h. (ap (λ (s : AfterSend). s .result .node) (left h), ap (λ (s : AfterSend). s .out) (left h));
     }
@@ -110,7 +120,8 @@ held-not : (count : ℕ) (ready : Bool) (k : ℕ) → ¬ (offerAnswer.Held count
 held-not count ready k e = let z : _≡_ {A = ℕ} 0 1 = cc in absurd (omega arith)
 
 -- 8 to 11 one after the other
-frame-checks : (t₈ t₉ t₁₀ t₁₁ : Bool) (x : ℕ) → let f : ℕ = cond t₈ 8 (cond t₉ 9 (cond t₁₀ 10 (cond t₁₁ 11 0))) in cond (not (eqb f 0)) f x ≡ cond t₈ 8 (cond t₉ 9 (cond t₁₀ 10 (cond t₁₁ 11 x)))
+frame-checks : (t₈ t₉ t₁₀ t₁₁ : Bool) (x : ℕ) → let f : ℕ = cond t₈ 8 (cond t₉ 9 (cond t₁₀ 10 (cond t₁₁ 11 0))) in
+    cond (not (eqb f 0)) f x ≡ cond t₈ 8 (cond t₉ 9 (cond t₁₀ 10 (cond t₁₁ 11 x)))
 frame-checks true t₉ t₁₀ t₁₁ x = refl
 frame-checks false true t₁₀ t₁₁ x = refl
 frame-checks false false true t₁₁ x = refl
@@ -121,10 +132,12 @@ offer-first : (r : Record) (s q : List ℕ) → offerRefusal r s q ≡ firstMet 
 unfolding offerRefusal recordRefusal frameRefusal holdRefusal
 offer-first r s q =
     ap (λ (k : ℕ). cond (brokenRecord r) 2 (cond (not (eqb (length q) queueSize)) 3 (cond (wrongQueue (nodeOf r []) (r .held) q) 4 k)))
-    (frame-checks (wrongTrailer s) (wrongKind (header s)) (wrongAddress (r .n) (r .cap) (header s)) (wrongContent (r .n) (r .cap) s) (holdRefusal (nodeAt r q) (decode s)))
+    (frame-checks (wrongTrailer s) (wrongKind (header s)) (wrongAddress (r .n) (r .cap) (header s))
+    (wrongContent (r .n) (r .cap) s) (holdRefusal (nodeAt r q) (decode s)))
 
 offer-by : (r : Record) (s q : List ℕ)
-    → offerCall r s q ≡ cond (eqb (firstMet (offerChecks r s q)) 0) (acceptOffer r s q (holding (nodeAt r q) (decode s))) (refuseOffer (firstMet (offerChecks r s q)) r q)
+    → offerCall r s q ≡ cond (eqb (firstMet (offerChecks r s q)) 0) (acceptOffer r s q (holding (nodeAt r q) (decode s)))
+    (refuseOffer (firstMet (offerChecks r s q)) r q)
 offer-by r s q =
     offer-by-refusal r s q
     ∙ ap (λ (k : ℕ). cond (eqb k 0) (acceptOffer r s q (holding (nodeAt r q) (decode s))) (refuseOffer k r q)) (offer-first r s q)
@@ -135,12 +148,21 @@ offer-says r s q =
     let c = offerCall r s q in
     let x = acceptOffer r s q (holding (nodeAt r q) (decode s)) in
     let g : ℕ → AfterOffer = λ k. refuseOffer k r q in
-    let left : ¬ (offerNumber (c .result .answer) ≡ 0) → c ≡ g (firstMet l) = refused (λ (a : AfterOffer). offerNumber (a .result .answer)) c (firstMet l) x g (offer-by r s q) refl in
+    let left : ¬ (offerNumber (c .result .answer) ≡ 0) → c ≡ g (firstMet l)
+    = refused (λ (a : AfterOffer). offerNumber (a .result .answer)) c (firstMet l) x g (offer-by r s q) refl in
     record {
       numbers = refl;
       answers =
-          by-first offerAnswer.Refused offerNumber l (x .result .answer) (c .result .answer)
-          (omega arith, (omega arith, (omega arith, (omega arith, (omega arith, (omega arith, (omega arith, (omega arith, (omega arith, (omega arith, (omega arith, (omega arith, tt))))))))))))
+          by-first offerAnswer.Refused offerNumber l (x .result .answer) (c .result .answer) (
+            omega arith,
+            (
+              omega arith,
+              (
+                omega arith,
+                (omega arith, (omega arith, (omega arith, (omega arith, (omega arith, (omega arith, (omega arith, (omega arith, (omega arith, tt))))))))),
+              ),
+            ),
+          )
           (part (λ (a : AfterOffer). a .result .answer) c (firstMet l) x g (offer-by r s q)) (λ k. refl) refl (held-not _ _);
       same = λ h. (ap (λ (a : AfterOffer). a .result .node) (left h), ap (λ (a : AfterOffer). a .queue) (left h));
     }
@@ -152,13 +174,15 @@ accepted-number : (r : Record) (q out body : List ℕ) (o : Outcome) (d : Option
 accepted-number r q out body o none = refl
 accepted-number r q out body o (some a) = refl
 
-accepted-not : (r : Record) (q out body : List ℕ) (o : Outcome) (d : Option Label) (k : ℕ) → ¬ (acceptDeliver r q out body o d .result .answer ≡ deliverAnswer.Refused k)
+accepted-not : (r : Record) (q out body : List ℕ) (o : Outcome) (d : Option Label) (k : ℕ)
+    → ¬ (acceptDeliver r q out body o d .result .answer ≡ deliverAnswer.Refused k)
 accepted-not r q out body o none k e = let z : _≡_ {A = ℕ} 0 1 = cc in absurd (omega arith)
 accepted-not r q out body o (some a) k e = let z : _≡_ {A = ℕ} 0 1 = cc in absurd (omega arith)
 
 deliver-by : (r : Record) (q out body : List ℕ)
     → deliverCall r q out body
-    ≡ cond (eqb (firstMet (deliverChecks r q out body)) 0) (acceptDeliver r q out body (concluded r q) (delivery ((concluded r q) .answer))) (refuseDeliver (firstMet (deliverChecks r q out body)) r q out body)
+    ≡ cond (eqb (firstMet (deliverChecks r q out body)) 0) (acceptDeliver r q out body (concluded r q) (delivery ((concluded r q) .answer)))
+    (refuseDeliver (firstMet (deliverChecks r q out body)) r q out body)
 unfolding deliverRefusal recordRefusal atLimit
 deliver-by r q out body = deliver-by-refusal r q out body
 
@@ -170,13 +194,20 @@ deliver-says r q out body =
     let x = acceptDeliver r q out body o (delivery (o .answer)) in
     let g : ℕ → AfterDeliver = λ k. refuseDeliver k r q out body in
     let z = accepted-number r q out body o (delivery (o .answer)) in
-    let left : ¬ (deliverNumber (c .result .answer) ≡ 0) → c ≡ g (firstMet l) = refused (λ (a : AfterDeliver). deliverNumber (a .result .answer)) c (firstMet l) x g (deliver-by r q out body) z in
+    let left : ¬ (deliverNumber (c .result .answer) ≡ 0) → c ≡ g (firstMet l)
+    = refused (λ (a : AfterDeliver). deliverNumber (a .result .answer)) c (firstMet l) x g (deliver-by r q out body) z in
     record {
       numbers = refl;
       answers =
           by-first deliverAnswer.Refused deliverNumber l (x .result .answer) (c .result .answer) (omega arith, (omega arith, (omega arith, (omega arith, tt))))
-          (part (λ (a : AfterDeliver). a .result .answer) c (firstMet l) x g (deliver-by r q out body)) (λ k. refl) z (accepted-not r q out body o (delivery (o .answer)));
-      same = λ h. (ap (λ (a : AfterDeliver). a .result .node) (left h), ap (λ (a : AfterDeliver). a .queue) (left h), ap (λ (a : AfterDeliver). a .out) (left h), ap (λ (a : AfterDeliver). a .body) (left h));
+          (part (λ (a : AfterDeliver). a .result .answer) c (firstMet l) x g (deliver-by r q out body)) (λ k. refl) z
+          (accepted-not r q out body o (delivery (o .answer)));
+      same = λ h. (
+        ap (λ (a : AfterDeliver). a .result .node) (left h),
+        ap (λ (a : AfterDeliver). a .queue) (left h),
+        ap (λ (a : AfterDeliver). a .out) (left h),
+        ap (λ (a : AfterDeliver). a .body) (left h),
+      );
     }
 
 pub demand1 : Demand1

@@ -102,7 +102,8 @@ none-gives (c ∷ l) f = go (c .met) refl (none-gives l)
     go false p g = past c l p ∙ g (λ k m. f k (inr m))
 
 -- an answer that is the refusal of the first met check, or where none is met is no refusal, says what it should
-pub by-first : {A : Type 0} (refused : ℕ → A) (number : A → ℕ) (l : List Check) (accepted answer : A) → Above 0 l → answer ≡ cond (eqb (firstMet l) 0) accepted (refused (firstMet l))
+pub by-first : {A : Type 0} (refused : ℕ → A) (number : A → ℕ) (l : List Check) (accepted answer : A) → Above 0 l
+    → answer ≡ cond (eqb (firstMet l) 0) accepted (refused (firstMet l))
     → ((k : ℕ) → number (refused k) ≡ k) → number accepted ≡ 0 → ((k : ℕ) → ¬ (accepted ≡ refused k)) → Answers refused number l answer
 by-first {A} refused number l accepted answer a e n z d =
     record {

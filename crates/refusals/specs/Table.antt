@@ -61,7 +61,8 @@ frameOf c = take (written (c .result .answer)) (c .out)
 
 -- the answer of a delivery of a user frame
 abbrev pub gets : (from number tried body bytes extras : ℕ) → DeliverAnswer
-gets from number tried body bytes extras = deliverAnswer.Frame (record { kind = 1; from = from; number = number; tried = tried; body = body; bytes = bytes; extras = extras })
+gets from number tried body bytes extras =
+    deliverAnswer.Frame (record { kind = 1; from = from; number = number; tried = tried; body = body; bytes = bytes; extras = extras })
 
 -- the array of a matrix: its rows 0 to 2 in columns 0 to 2, zero elsewhere
 abbrev pub rows : (a b c d e f g h i : ℕ) → List ℕ

@@ -29,11 +29,18 @@ pub record Ranged (me n cap : ℕ) : Type 0 where
 pub ranged : (me n cap : ℕ) → inRange me n cap ≡ true → Ranged me n cap
 unfolding inRange
 ranged me n cap e =
-    let p = and-T (leb 2 n && leb n 12 && ltb me n && leb n cap) (leb cap (n * n)) (of-true (leb 2 n && leb n 12 && ltb me n && leb n cap && leb cap (n * n)) e) in
+    let p = and-T (leb 2 n && leb n 12 && ltb me n && leb n cap) (leb cap (n * n))
+    (of-true (leb 2 n && leb n 12 && ltb me n && leb n cap && leb cap (n * n)) e) in
     let q = and-T (leb 2 n && leb n 12 && ltb me n) (leb n cap) (p .0) in
     let r = and-T (leb 2 n && leb n 12) (ltb me n) (q .0) in
     let s = and-T (leb 2 n) (leb n 12) (r .0) in
-    record { atLeast2 = leb→le 2 n (s .0); atMost12 = leb→le n 12 (s .1); below = ltb→lt me n (r .1); capFrom = leb→le n cap (q .1); capTo = leb→le cap (n * n) (p .1) }
+    record {
+      atLeast2 = leb→le 2 n (s .0);
+      atMost12 = leb→le n 12 (s .1);
+      below = ltb→lt me n (r .1);
+      capFrom = leb→le n cap (q .1);
+      capTo = leb→le cap (n * n) (p .1);
+    }
 
 -- a record that breaks a rule, test by test
 module _ (me n cap : ℕ) (m : Matrix) (v : ℕ → ℕ) (held : ℕ) where
@@ -53,10 +60,19 @@ module _ (me n cap : ℕ) (m : Matrix) (v : ℕ → ℕ) (held : ℕ) where
   unfolding brokenRules
   too-full g = rw (lt-leb held 16 g, and-false (inRange me n cap && zeroDiagonal m && zeroColumn me m && leb (count m) cap && eqb (v me) 0 && withinLimit m v))
 
-  pub rules-left : inRange me n cap ≡ true → count m ≤ cap → v me ≡ 0 → held ≤ 16 → brokenRules me n cap m v held ≡ not (zeroDiagonal m && zeroColumn me m && withinLimit m v && zeroFrom n m v)
+  pub rules-left : inRange me n cap ≡ true → count m ≤ cap → v me ≡ 0 → held ≤ 16
+      → brokenRules me n cap m v held ≡ not (zeroDiagonal m && zeroColumn me m && withinLimit m v && zeroFrom n m v)
   unfolding brokenRules
   rules-left a d e g =
-      rw (a, le-leb (count m) cap d, eq-eqb (v me) 0 e, le-leb held 16 g, and-true (zeroDiagonal m && zeroColumn me m), and-true (zeroDiagonal m && zeroColumn me m), and-true (zeroDiagonal m && zeroColumn me m && withinLimit m v))
+      rw (
+        a,
+        le-leb (count m) cap d,
+        eq-eqb (v me) 0 e,
+        le-leb held 16 g,
+        and-true (zeroDiagonal m && zeroColumn me m),
+        and-true (zeroDiagonal m && zeroColumn me m),
+        and-true (zeroDiagonal m && zeroColumn me m && withinLimit m v),
+      )
 
 -- a count at its limit
 pub limit-either : (d : Node) (me : ℕ) (m : Matrix) (v : ℕ → ℕ) → d .me ≡ me → d .matrix ≡ m → d .deliv ≡ v
@@ -108,7 +124,8 @@ everywhere l Q x y z h = go (decLt x 12) (decLt y 12)
 -- an entry outside the first n rows and columns that is zero by its test
 zero-outside : (a b v : ℕ) (n : ℕ) → T (ltb a n && ltb b n || eqb v 0) → (a < n → b < n → ⊥) → v ≡ 0
 zero-outside a b v n t h =
-    ⊎-elim (λ p. let q = and-T (ltb a n) (ltb b n) p in absurd (h (ltb→lt a n (q .0)) (ltb→lt b n (q .1)))) (λ e. eqb→eq v 0 e) (or-T (ltb a n && ltb b n) (eqb v 0) t)
+    ⊎-elim (λ p. let q = and-T (ltb a n) (ltb b n) p in
+    absurd (h (ltb→lt a n (q .0)) (ltb→lt b n (q .1)))) (λ e. eqb→eq v 0 e) (or-T (ltb a n && ltb b n) (eqb v 0) t)
 
 module _ (me n cap : ℕ) (l : List ℕ) (v : ℕ → ℕ) (held : ℕ) where
   abbrev m : Matrix
@@ -117,12 +134,14 @@ module _ (me n cap : ℕ) (l : List ℕ) (v : ℕ → ℕ) (held : ℕ) where
   pub unbroken : brokenRules me n cap (entry l) v held ≡ false → Unbroken me n cap (entry l) v held
   unfolding brokenRules withinLimit zeroFrom zeroDiagonal zeroColumn
   unbroken e =
-      let p = parts (inRange me n cap) (zeroDiagonal m) (zeroColumn me m) (leb (count m) cap) (eqb (v me) 0) (withinLimit m v) (leb held 16) (zeroFrom n m v) e in
+      let p = parts (inRange me n cap) (zeroDiagonal m) (zeroColumn me m) (leb (count m) cap) (eqb (v me) 0)
+      (withinLimit m v) (leb held 16) (zeroFrom n m v) e in
       let w = and-T (eachBelow 12 (λ x. eachBelow 12 (λ y. leb (m x y) maxCount))) (eachBelow 12 (λ x. leb (v x) maxCount)) (p .5) in
       let z = and-T (eachBelow 12 (λ x. eachBelow 12 (λ y. ltb x n && ltb y n || eqb (m x y) 0))) (eachBelow 12 (λ x. ltb x n || eqb (v x) 0)) (p .7) in
       let out : (x y : ℕ) → (x < n → y < n → ⊥) → m x y ≡ 0 =
       λ x y h. everywhere l (λ (u : ℕ). u ≡ 0) x y refl
-      (λ a b. zero-outside x y (m x y) n (each-all 12 (λ y. ltb x n && ltb y n || eqb (m x y) 0) (each-all 12 (λ x. eachBelow 12 (λ y. ltb x n && ltb y n || eqb (m x y) 0)) (z .0) x a) y b) h) in
+      (λ a b. zero-outside x y (m x y) n
+      (each-all 12 (λ y. ltb x n && ltb y n || eqb (m x y) 0) (each-all 12 (λ x. eachBelow 12 (λ y. ltb x n && ltb y n || eqb (m x y) 0)) (z .0) x a) y b) h) in
       record {
         range = ranged me n cap (is-true (inRange me n cap) (p .0));
         rules =
@@ -134,9 +153,13 @@ module _ (me n cap : ℕ) (l : List ℕ) (v : ℕ → ℕ) (held : ℕ) where
             };
         few = leb→le (count m) cap (p .3);
         own = eqb→eq (v me) 0 (p .4);
-        limit = λ x y. everywhere l (λ (u : ℕ). u ≤ maxCount) x y (omega arith) (λ a b. leb→le (m x y) maxCount (each-all 12 (λ y. leb (m x y) maxCount) (each-all 12 (λ x. eachBelow 12 (λ y. leb (m x y) maxCount)) (w .0) x a) y b));
+        limit =
+            λ x y. everywhere l (λ (u : ℕ). u ≤ maxCount) x y (omega arith) (λ a b. leb→le (m x y) maxCount
+            (each-all 12 (λ y. leb (m x y) maxCount) (each-all 12 (λ x. eachBelow 12 (λ y. leb (m x y) maxCount)) (w .0) x a) y b));
         vectorLimit = λ x h. leb→le (v x) maxCount (each-all 12 (λ x. leb (v x) maxCount) (w .1) x h);
-        vectorZero = λ x h k. ⊎-elim (λ t. absurd (omega (arith, ltb→lt x n t))) (λ t. eqb→eq (v x) 0 t) (or-T (ltb x n) (eqb (v x) 0) (each-all 12 (λ x. ltb x n || eqb (v x) 0) (z .1) x h));
+        vectorZero =
+            λ x h k. ⊎-elim (λ t. absurd (omega (arith, ltb→lt x n t))) (λ t. eqb→eq (v x) 0 t)
+            (or-T (ltb x n) (eqb (v x) 0) (each-all 12 (λ x. ltb x n || eqb (v x) 0) (z .1) x h));
         room = leb→le held 16 (p .6);
       }
 

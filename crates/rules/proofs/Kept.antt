@@ -20,7 +20,8 @@ unfolding inRange
 range-T me n cap r =
     T-and (leb 2 n && leb n 12 && ltb me n && leb n cap) (leb cap (n * n))
     (T-and (leb 2 n && leb n 12 && ltb me n) (leb n cap)
-    (T-and (leb 2 n && leb n 12) (ltb me n) (T-and (leb 2 n) (leb n 12) (le→leb 2 n (r .atLeast2)) (le→leb n 12 (r .atMost12))) (lt→ltb me n (r .below))) (le→leb n cap (r .capFrom)))
+    (T-and (leb 2 n && leb n 12) (ltb me n) (T-and (leb 2 n) (leb n 12) (le→leb 2 n (r .atLeast2)) (le→leb n 12 (r .atMost12))) (lt→ltb me n (r .below)))
+    (le→leb n cap (r .capFrom)))
     (le→leb cap (n * n) (r .capTo))
 
 -- the matrix and the vector
@@ -37,7 +38,8 @@ module _ (me n cap : ℕ) (m : Matrix) (v : ℕ → ℕ) (held : ℕ) (k : Unbro
   unfolding withinLimit
   limit-T =
       T-and (eachBelow 12 (λ x. eachBelow 12 (λ y. leb (m x y) maxCount))) (eachBelow 12 (λ x. leb (v x) maxCount))
-      (all-each 12 (λ x. eachBelow 12 (λ y. leb (m x y) maxCount)) (λ x _. all-each 12 (λ y. leb (m x y) maxCount) (λ y _. le→leb (m x y) maxCount (k .limit x y))))
+      (all-each 12 (λ x. eachBelow 12 (λ y. leb (m x y) maxCount))
+      (λ x _. all-each 12 (λ y. leb (m x y) maxCount) (λ y _. le→leb (m x y) maxCount (k .limit x y))))
       (all-each 12 (λ x. leb (v x) maxCount) (λ x h. le→leb (v x) maxCount (k .vectorLimit x h)))
 
   cell : (x y : ℕ) → Dec (x < n) → Dec (y < n) → T (ltb x n && ltb y n || eqb (m x y) 0)
@@ -53,15 +55,18 @@ module _ (me n cap : ℕ) (m : Matrix) (v : ℕ → ℕ) (held : ℕ) (k : Unbro
   unfolding zeroFrom
   from-T =
       T-and (eachBelow 12 (λ x. eachBelow 12 (λ y. ltb x n && ltb y n || eqb (m x y) 0))) (eachBelow 12 (λ x. ltb x n || eqb (v x) 0))
-      (all-each 12 (λ x. eachBelow 12 (λ y. ltb x n && ltb y n || eqb (m x y) 0)) (λ x _. all-each 12 (λ y. ltb x n && ltb y n || eqb (m x y) 0) (λ y _. cell x y (decLt x n) (decLt y n))))
+      (all-each 12 (λ x. eachBelow 12 (λ y. ltb x n && ltb y n || eqb (m x y) 0))
+      (λ x _. all-each 12 (λ y. ltb x n && ltb y n || eqb (m x y) 0) (λ y _. cell x y (decLt x n) (decLt y n))))
       (all-each 12 (λ x. ltb x n || eqb (v x) 0) (λ x h. element x h (decLt x n)))
 
   -- all of them together
   pub rules-kept : brokenRules me n cap m v held ≡ false
   unfolding brokenRules
   rules-kept =
-      is-false (not (inRange me n cap && zeroDiagonal m && zeroColumn me m && leb (count m) cap && eqb (v me) 0 && withinLimit m v && leb held 16 && zeroFrom n m v))
-      (T-not-not (inRange me n cap && zeroDiagonal m && zeroColumn me m && leb (count m) cap && eqb (v me) 0 && withinLimit m v && leb held 16 && zeroFrom n m v)
+      is-false (not (inRange me n cap && zeroDiagonal m && zeroColumn me m && leb (count m) cap && eqb (v me) 0
+      && withinLimit m v && leb held 16 && zeroFrom n m v))
+      (T-not-not (inRange me n cap && zeroDiagonal m && zeroColumn me m && leb (count m) cap && eqb (v me) 0
+      && withinLimit m v && leb held 16 && zeroFrom n m v)
       (T-and (inRange me n cap && zeroDiagonal m && zeroColumn me m && leb (count m) cap && eqb (v me) 0 && withinLimit m v && leb held 16) (zeroFrom n m v)
       (T-and (inRange me n cap && zeroDiagonal m && zeroColumn me m && leb (count m) cap && eqb (v me) 0 && withinLimit m v) (leb held 16)
       (T-and (inRange me n cap && zeroDiagonal m && zeroColumn me m && leb (count m) cap && eqb (v me) 0) (withinLimit m v)

@@ -38,21 +38,30 @@ pub each-place : (p : ℕ → ℕ → Bool) → eachBelow 144 (λ k. p (k / 12) 
 each-place p = same-test (eachBelow 144 (λ k. p (k / 12) (k % 12))) (eachBelow 12 (λ x. eachBelow 12 (λ y. p x y))) rows places
   where
     rows : T (eachBelow 144 (λ k. p (k / 12) (k % 12))) → T (eachBelow 12 (λ x. eachBelow 12 (λ y. p x y)))
-    rows t = all-each 12 (λ x. eachBelow 12 (λ y. p x y)) (λ x h. all-each 12 (λ y. p x y) (λ y l. rw (place-row x y l, place-column x y l) at (each-all 144 (λ k. p (k / 12) (k % 12)) t (12 * x + y) (omega arith))))
+    rows t =
+        all-each 12 (λ x. eachBelow 12 (λ y. p x y)) (λ x h. all-each 12 (λ y. p x y)
+        (λ y l. rw (place-row x y l, place-column x y l) at (each-all 144 (λ k. p (k / 12) (k % 12)) t (12 * x + y) (omega arith))))
 
     places : T (eachBelow 12 (λ x. eachBelow 12 (λ y. p x y))) → T (eachBelow 144 (λ k. p (k / 12) (k % 12)))
-    places t = all-each 144 (λ k. p (k / 12) (k % 12)) (λ k h. each-all 12 (λ y. p (k / 12) y) (each-all 12 (λ x. eachBelow 12 (λ y. p x y)) t (k / 12) (omega arith)) (k % 12) (omega arith))
+    places t =
+        all-each 144 (λ k. p (k / 12) (k % 12))
+        (λ k h. each-all 12 (λ y. p (k / 12) y) (each-all 12 (λ x. eachBelow 12 (λ y. p x y)) t (k / 12) (omega arith)) (k % 12) (omega arith))
 
 pub each-array : (p : ℕ → Bool) (l : List ℕ) → eachBelow 144 (λ k. p (getD l k 0)) ≡ eachBelow 12 (λ x. eachBelow 12 (λ y. p (entry l x y)))
-each-array p l = each-ext 144 (λ k. p (getD l k 0)) (λ k. p (entry l (k / 12) (k % 12))) (λ k h. ap p (sym (entry-place l k h))) ∙ each-place (λ x y. p (entry l x y))
+each-array p l =
+    each-ext 144 (λ k. p (getD l k 0)) (λ k. p (entry l (k / 12) (k % 12))) (λ k h. ap p (sym (entry-place l k h))) ∙ each-place (λ x y. p (entry l x y))
 
 -- the places from row n on
 place-before : (n k : ℕ) → ltb k (12 * n) ≡ ltb (k / 12) n
-place-before n k = same-test (ltb k (12 * n)) (ltb (k / 12) n) (λ t. lt→ltb (k / 12) n (omega (arith, ltb→lt k (12 * n) t))) (λ t. lt→ltb k (12 * n) (omega (arith, ltb→lt (k / 12) n t)))
+place-before n k =
+    same-test (ltb k (12 * n)) (ltb (k / 12) n) (λ t. lt→ltb (k / 12) n (omega (arith, ltb→lt k (12 * n) t)))
+    (λ t. lt→ltb k (12 * n) (omega (arith, ltb→lt (k / 12) n t)))
 
-pub rows-array : (n : ℕ) (l : List ℕ) → eachBelow 144 (λ k. ltb k (12 * n) || eqb (getD l k 0) 0) ≡ eachBelow 12 (λ x. eachBelow 12 (λ y. ltb x n || eqb (entry l x y) 0))
+pub rows-array : (n : ℕ) (l : List ℕ)
+    → eachBelow 144 (λ k. ltb k (12 * n) || eqb (getD l k 0) 0) ≡ eachBelow 12 (λ x. eachBelow 12 (λ y. ltb x n || eqb (entry l x y) 0))
 rows-array n l =
-    each-ext 144 (λ k. ltb k (12 * n) || eqb (getD l k 0) 0) (λ k. ltb (k / 12) n || eqb (entry l (k / 12) (k % 12)) 0) (λ k h. rw (place-before n k, entry-place l k h))
+    each-ext 144 (λ k. ltb k (12 * n) || eqb (getD l k 0) 0) (λ k. ltb (k / 12) n || eqb (entry l (k / 12) (k % 12)) 0)
+    (λ k h. rw (place-before n k, entry-place l k h))
     ∙ each-place (λ x y. ltb x n || eqb (entry l x y) 0)
 
 -- one cell: its row is before n or it is zero, and in a row before n its column is or it is zero
@@ -86,11 +95,15 @@ outside n e h = same-test (eachBelow 12 rows && eachBelow n columns) (eachBelow 
     there : T (eachBelow 12 rows && eachBelow n columns) → T (eachBelow 12 cells)
     there t =
         let p = and-T (eachBelow 12 rows) (eachBelow n columns) t in
-        all-each 12 cells (λ x k. all-each 12 (λ y. ltb x n && ltb y n || eqb (e x y) 0) (λ y l. cell (ltb x n) (ltb y n) (eqb (e x y) 0) (each-all 12 (λ b. ltb x n || eqb (e x b) 0) (each-all 12 rows (p .0) x k) y l) (λ s. each-all 12 (λ b. ltb b n || eqb (e x b) 0) (each-all n columns (p .1) x (ltb→lt x n s)) y l)))
+        all-each 12 cells (λ x k. all-each 12 (λ y. ltb x n && ltb y n || eqb (e x y) 0)
+        (λ y l. cell (ltb x n) (ltb y n) (eqb (e x y) 0) (each-all 12 (λ b. ltb x n || eqb (e x b) 0) (each-all 12 rows (p .0) x k) y l)
+        (λ s. each-all 12 (λ b. ltb b n || eqb (e x b) 0) (each-all n columns (p .1) x (ltb→lt x n s)) y l)))
 
     back : T (eachBelow 12 cells) → T (eachBelow 12 rows && eachBelow n columns)
     back t =
-        let at : (x : ℕ) → x < 12 → (y : ℕ) → y < 12 → T (ltb x n && ltb y n || eqb (e x y) 0) = λ x k. each-all 12 (λ y. ltb x n && ltb y n || eqb (e x y) 0) (each-all 12 cells t x k) in
+        let at : (x : ℕ) → x < 12 → (y : ℕ) → y < 12 → T (ltb x n && ltb y n || eqb (e x y) 0)
+        = λ x k. each-all 12 (λ y. ltb x n && ltb y n || eqb (e x y) 0) (each-all 12 cells t x k) in
         T-and (eachBelow 12 rows) (eachBelow n columns)
         (all-each 12 rows (λ x k. all-each 12 (λ y. ltb x n || eqb (e x y) 0) (λ y l. cell-row (ltb x n) (ltb y n) (eqb (e x y) 0) (at x k y l))))
-        (all-each n columns (λ x k. all-each 12 (λ y. ltb y n || eqb (e x y) 0) (λ y l. cell-column (ltb x n) (ltb y n) (eqb (e x y) 0) (lt→ltb x n k) (at x (omega arith) y l))))
+        (all-each n columns (λ x k. all-each 12 (λ y. ltb y n || eqb (e x y) 0)
+        (λ y l. cell-column (ltb x n) (ltb y n) (eqb (e x y) 0) (lt→ltb x n k) (at x (omega arith) y l))))

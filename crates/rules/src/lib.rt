@@ -1,4 +1,5 @@
-//! The record rules: whether n, me and cap are in range, whether matrix and vector keep the rules, and whether a count is at its limit. Passes have no early exit, since a record is sound nearly always.
+//! The record rules: whether n, me and cap are in range, whether matrix and vector keep the rules, and whether a count is at its limit.
+//! Passes have no early exit, since a record is sound nearly always.
 ghost use mathlib.Core.Path.{_≡_};
 ghost use mathlib.Core.Bool.{_&&_, _||_};
 ghost use Prim.Native.Nat.{_+_, _*_, _≤_, _<_};
@@ -157,7 +158,8 @@ fn vector_zero_from(v: &[u32; 12], n: usize) -> bool
 // The counts keep the rules: a zero diagonal, a zero column me, nothing above the limit, and zeros from n on.
 fn counts_ok<'a>(me: usize, n: usize, m: &'a [u32; 144], v: &'a [u32; 12]) -> bool
     requires { ⌜ (length (now m) ≡ 144) × (length (now v) ≡ 12) × (me < 12) × (n ≤ 12) ⌝ }
-    ensures { λ r. ⌜ r ≡ (zeroDiagonal (entry (now (m .entry))) && zeroColumn me (entry (now (m .entry))) && withinLimit (entry (now (m .entry))) (vector (now (v .entry))) && zeroFrom n (entry (now (m .entry))) (vector (now (v .entry)))) ⌝ }
+    ensures { λ r. ⌜ r ≡ (zeroDiagonal (entry (now (m .entry))) && zeroColumn me (entry (now (m .entry)))
+        && withinLimit (entry (now (m .entry))) (vector (now (v .entry))) && zeroFrom n (entry (now (m .entry))) (vector (now (v .entry)))) ⌝ }
 {
     let zeros = both(zero_diagonal(m), zero_column(m, me));
     let within = both(matrix_within(m), vector_within(v));

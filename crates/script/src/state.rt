@@ -1,4 +1,5 @@
-//! What the script works on, in cells of one lent array. A cell is named by where its part begins and its place there; one past the end reads as 0 and is not written.
+//! What the script works on, in cells of one lent array.
+//! A cell is named by where its part begins and its place there; one past the end reads as 0 and is not written.
 use super::text;
 use node::Node;
 ghost use Prim.Native.Nat.{_≤_};

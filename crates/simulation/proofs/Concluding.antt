@@ -64,22 +64,26 @@ module _ (n cap k : ℕ) (v : World) (w : Stored) (q l : List ℕ) (h : Holds n 
   pub enough : (at : ℕ) (o : List ℕ) → at + 20 + 17 * (75 - w .issued) ≤ length o → at + 20 + 17 * (s .world .issued - w .issued) ≤ length o
   enough at o r = omega (arith, told .1 .issued, told .1 .below)
 
-  pub bounded : (r : Taken) (at : ℕ) → r .yard .world ≡ s .world → r .end ≤ at + 20 + 17 * (s .world .issued - w .issued) → r .end + 17 * w .issued ≤ at + 20 + 17 * r .yard .world .issued
+  pub bounded : (r : Taken) (at : ℕ) → r .yard .world ≡ s .world → r .end ≤ at + 20 + 17 * (s .world .issued - w .issued)
+      → r .end + 17 * w .issued ≤ at + 20 + 17 * r .yard .world .issued
   bounded r at e b = omega (arith, grows, ap (λ (y : Stored). y .issued) e)
 
   -- what the outcome prints is what the definition prints
   printed-told : (at end : ℕ) (o o′ : List ℕ)
-      → ((g : List (List ℕ)) → InLog (w .issued) (s .world .issued) (w .end) l′ g → Wrote (printedBy x (issueRows (w .issued + 1) (drop (w .issued) g)) (s .outcome)) at o end o′)
+      → ((g : List (List ℕ)) → InLog (w .issued) (s .world .issued) (w .end) l′ g
+      → Wrote (printedBy x (issueRows (w .issued + 1) (drop (w .issued) g)) (s .outcome)) at o end o′)
       → Wrote (printedBy x (newRows v (a .world)) (a .outcome)) at o end o′
   printed-told at end o o′ p =
       let d = p g in-log in
       shown _ _ at end o o′ (sym (ap₂ (λ (i : ℕ) (y : Outcome). printedBy x (issueRows (i + 1) (drop i g)) y) (h .issued) (told .0))) (d .0) (d .1)
 
 -- the line is taken
-module _ (n cap k : ℕ) (z : Yard) (w : Stored) (t : Counters) (q l : List ℕ) (h : Holds n cap maxIssues k (z .world) w q l) (counters : t ≡ z .counters) (x : ℕ) (a : AfterStep) (f : StepFacts x (z .world) a)
+module _ (n cap k : ℕ) (z : Yard) (w : Stored) (t : Counters) (q l : List ℕ) (h : Holds n cap maxIssues k (z .world) w q l) (counters : t ≡ z .counters) (x : ℕ)
+    (a : AfterStep) (f : StepFacts x (z .world) a)
     (s : Stepped) (q′ l′ : List ℕ) (told : Told n cap k a (s .outcome) (s .world) q′ l′) where
   pub took-step : (r : Taken) (at : ℕ) (o o′ : List ℕ) → r .yard .world ≡ s .world → r .yard .counters ≡ countedBy t (s .outcome)
-      → ((g : List (List ℕ)) → InLog (w .issued) (s .world .issued) (w .end) l′ g → Wrote (printedBy x (issueRows (w .issued + 1) (drop (w .issued) g)) (s .outcome)) at o (r .end) o′)
+      → ((g : List (List ℕ)) → InLog (w .issued) (s .world .issued) (w .end) l′ g
+      → Wrote (printedBy x (issueRows (w .issued + 1) (drop (w .issued) g)) (s .outcome)) at o (r .end) o′)
       → Took n cap k (afterStep z x a) at o r q′ l′ o′
   took-step r at o o′ ew ec p =
       let d = printed-told n cap k (z .world) w q l h x a f s q′ l′ told at (r .end) o o′ p in
@@ -93,12 +97,14 @@ module _ (n cap k : ℕ) (z : Yard) (w : Stored) (t : Counters) (q l : List ℕ)
       }
 
 -- another line: nothing but the refusal is printed
-pub took-other : (n cap k : ℕ) (z : Yard) (y : StoredYard) (q l : List ℕ) → Stands n cap k z y q l → (at end : ℕ) (o o′ : List ℕ) → end ≡ at + length (refusalRow 17) → o′ ≡ put o at (refusalRow 17)
+pub took-other : (n cap k : ℕ) (z : Yard) (y : StoredYard) (q l : List ℕ) → Stands n cap k z y q l → (at end : ℕ) (o o′ : List ℕ)
+    → end ≡ at + length (refusalRow 17) → o′ ≡ put o at (refusalRow 17)
     → Took n cap k (line n z command.Other) at o (record { yard = y; end = end }) q l o′
 unfolding line
 took-other n cap k z y q l s at end o o′ e b =
     record { stands = record { world = holds-later n cap maxIssues k (z .world) (y .world) q l (s .world); counters = s .counters }; end = e; bytes = b }
 
 -- the line of a command that the text is
-pub took-as : (n cap k : ℕ) (z : Yard) (c d : Command) → d ≡ c → (at : ℕ) (o : List ℕ) (r : Taken) (q l o′ : List ℕ) → Took n cap k (line n z c) at o r q l o′ → Took n cap k (line n z d) at o r q l o′
+pub took-as : (n cap k : ℕ) (z : Yard) (c d : Command) → d ≡ c → (at : ℕ) (o : List ℕ) (r : Taken) (q l o′ : List ℕ) → Took n cap k (line n z c) at o r q l o′
+    → Took n cap k (line n z d) at o r q l o′
 took-as n cap k z c d e at o r q l o′ t = subst (λ (x : Command). Took n cap k (line n z x) at o r q l o′) (sym e) t

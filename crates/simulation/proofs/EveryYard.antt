@@ -28,7 +28,8 @@ module _ (n cap : ℕ) (inside : InRange n cap) where
   line-reached k y r h command.Other = reached-later n cap k (y .world) r
 
   -- and all behind it
-  lines-reached : (k : ℕ) (y : Yard) (ls : List (List ℕ)) → Reached n cap k (y .world) → k + length ls < 1000000000 → Reached n cap (k + length ls) (afterLines n y ls .world)
+  lines-reached : (k : ℕ) (y : Yard) (ls : List (List ℕ)) → Reached n cap k (y .world) → k + length ls < 1000000000
+      → Reached n cap (k + length ls) (afterLines n y ls .world)
   lines-reached k y [] r h = subst (λ (x : ℕ). Reached n cap x (y .world)) (sym (add-zero k)) r
   lines-reached k y (l ∷ ls) r h =
       let z : Yard = line n y (command l) .yard in
@@ -42,7 +43,8 @@ pub everyYard : EveryYard
 everyYard n cap open′ ls short =
     let inside : InRange n cap = opens n cap open′ .range in
     let w : World = afterLines n (opened n cap) ls .world in
-    let r : Reached n cap (length ls) w = subst (λ (x : ℕ). Reached n cap x w) (zero-add (length ls)) (lines-reached n cap inside 0 (opened n cap) ls (first n cap inside) (omega arith)) in
+    let r : Reached n cap (length ls) w
+    = subst (λ (x : ℕ). Reached n cap x w) (zero-add (length ls)) (lines-reached n cap inside 0 (opened n cap) ls (first n cap inside) (omega arith)) in
     record {
       reached = r;
       demand3 = subst (Demand3For n cap) (sym (r .same)) (demand3 n cap inside (r .steps) (r .bytes) (omega (arith, r .few)));

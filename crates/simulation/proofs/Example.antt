@@ -7,7 +7,8 @@ use Rattle.frame.specs.Entries.{entriesBytes, entriesFrom, entriesOf, entryAt, 
 use Rattle.frame.specs.Frame.{decode, encode, front, headerOf}
 use Rattle.frame.specs.Frames.{framesOf}
 use Rattle.frame.specs.Header.{header, headerBytes, ownLength}
-use Rattle.frame.specs.Refusals.{precedes, eachOk, entryOk, frameRefusal, rising, risingAfter, wrongAddress, wrongBody, wrongContent, wrongEntries, wrongKind, wrongTrailer}
+use Rattle.frame.specs.Refusals.{precedes, eachOk, entryOk, frameRefusal, rising, risingAfter, wrongAddress}
+use Rattle.frame.specs.Refusals.{wrongBody, wrongContent, wrongEntries, wrongKind, wrongTrailer}
 use Rattle.holdback.specs.WrongQueue.{heldRefused, sameBytes, someAlike, someRefused, wrongQueue}
 use Rattle.holdback.specs.Slots.{frameIn, heldFrames, padded, slots, without, zeros}
 use Rattle.matrix.specs.Array.{entry, flat}
@@ -68,5 +69,12 @@ printed =
     ++ (84 ∷ 32 ∷ 51 ∷ 32 ∷ 48 ∷ 32 ∷ 51 ∷ 32 ∷ 49 ∷ 32 ∷ 48 ∷ 10 ∷ [])
 
 pub example : output input ≡ printed
-unfolding setUp inRange cutFor sendCall offerCall deliverCall brokenRecord brokenRules zeroDiagonal zeroColumn withinLimit zeroFrom count columnCount flat entry atLimit protocolSend.send protocolOffer.offer protocolDeliver.deliver deliverable trimFor fullest clear only merge framesOf encode sealed front headerBytes headerOf header ownLength entriesBytes entryBytes entriesOf listed placed entriesFrom entryAt matrixOf le16 le32 u16At u32At bytes.put trailer trailers.counted checksum total decode wrongQueue sameBytes heldRefused someRefused someAlike arrivalRefusal frameRefusal wrongTrailer hasTrailer countBack sumBack wrongKind wrongAddress wrongContent wrongBody wrongEntries eachOk entryOk precedes rising risingAfter zeros padded slots frameIn heldFrames without sendStep offerStep deliverStep named issueFrom startable capTaken upTo32 share noCounters withExtras countedSend countedOffer countedDelivery countedNothing commands.letter commands.withOne commands.withTwo commands.ofPieces commands.command firstLine.sizes firstLine.ofPieces firstLine.firstLine row spaced decimal digits value continued isDigit split grown output ofLines started lines line printedBy countedBy headerRow issueRows
+unfolding setUp inRange cutFor sendCall offerCall deliverCall brokenRecord brokenRules zeroDiagonal zeroColumn withinLimit zeroFrom count columnCount flat entry
+    atLimit protocolSend.send protocolOffer.offer protocolDeliver.deliver deliverable trimFor fullest clear only merge framesOf encode sealed front headerBytes
+    headerOf header ownLength entriesBytes entryBytes entriesOf listed placed entriesFrom entryAt matrixOf le16 le32 u16At u32At bytes.put trailer
+    trailers.counted checksum total decode wrongQueue sameBytes heldRefused someRefused someAlike arrivalRefusal frameRefusal wrongTrailer hasTrailer countBack
+    sumBack wrongKind wrongAddress wrongContent wrongBody wrongEntries eachOk entryOk precedes rising risingAfter zeros padded slots frameIn heldFrames without
+    sendStep offerStep deliverStep named issueFrom startable capTaken upTo32 share noCounters withExtras countedSend countedOffer countedDelivery countedNothing
+    commands.letter commands.withOne commands.withTwo commands.ofPieces commands.command firstLine.sizes firstLine.ofPieces firstLine.firstLine row spaced
+    decimal digits value continued isDigit split grown output ofLines started lines line printedBy countedBy headerRow issueRows
 example = refl

@@ -18,7 +18,8 @@ use Rattle.node.specs.declared.SendAnswer.the-variants as sendAnswer
 use Rattle.node.specs.declared.OfferAnswer.the-variants as offerAnswer
 use Rattle.node.specs.declared.DeliverAnswer.the-variants as deliverAnswer
 use Rattle.causality.specs.Demand3.{Issue, Label, World, destination}
-use Rattle.world.specs.Steps.{AfterStep, afterDelivered, afterOffered, afterSent, bodyOutput, deliverStep, exhausted, frameOutput, frames, issueFrom, named, offerStep, offerTo, refuse, sendStep}
+use Rattle.world.specs.Steps.{AfterStep, afterDelivered, afterOffered, afterSent, bodyOutput, deliverStep, exhausted}
+use Rattle.world.specs.Steps.{frameOutput, frames, issueFrom, named, offerStep, offerTo, refuse, sendStep}
 use Rattle.simulation.specs.Asked.{Few, Small}
 
 -- an issue that is found is one of the frames
@@ -45,9 +46,11 @@ pub send-facts : (x n limit : ℕ) (w : World) (i j : ℕ) → StepFacts x w (se
 unfolding sendStep
 send-facts x n limit w i j =
     let c : AfterSend = sendCall (w .records i) j [] frameOutput in
-    cond-elim (StepFacts x w) (leb n i || exhausted n limit w) (refuse 17 w) (afterSent w i j c (c .result .answer)) (λ t. refused-facts x 17 w) (λ t. go (c .result .answer) (send-told (w .records i) j [] frameOutput))
+    cond-elim (StepFacts x w) (leb n i || exhausted n limit w) (refuse 17 w) (afterSent w i j c (c .result .answer)) (λ t. refused-facts x 17 w)
+    (λ t. go (c .result .answer) (send-told (w .records i) j [] frameOutput))
   where
-    go : (a : SendAnswer) → SendTold frameOutput a (sendCall (w .records i) j [] frameOutput) → StepFacts x w (afterSent w i j (sendCall (w .records i) j [] frameOutput) a)
+    go : (a : SendAnswer) → SendTold frameOutput a (sendCall (w .records i) j [] frameOutput)
+        → StepFacts x w (afterSent w i j (sendCall (w .records i) j [] frameOutput) a)
     go (sendAnswer.Refused k) t = refused-facts x k w
     go (sendAnswer.Sent bytes extras) t = record { few = omega (arith, t .few); small = tt; grown = (_, refl) }
 
@@ -56,8 +59,10 @@ unfolding offerStep
 offer-facts w zero h = refused-facts 0 17 w
 offer-facts w (suc p) h = to (getElem? (w .log) p)
   where
-    go : (g : Issue) (a : OfferAnswer) → OfferTold (w .queues (destination (g .frame))) a (offerCall (w .records (destination (g .frame))) (g .frame) (w .queues (destination (g .frame))))
-        → StepFacts (suc p) w (afterOffered w (destination (g .frame)) p (offerCall (w .records (destination (g .frame))) (g .frame) (w .queues (destination (g .frame)))) a)
+    go : (g : Issue) (a : OfferAnswer)
+        → OfferTold (w .queues (destination (g .frame))) a (offerCall (w .records (destination (g .frame))) (g .frame) (w .queues (destination (g .frame))))
+        → StepFacts (suc p) w (afterOffered w (destination (g .frame)) p
+        (offerCall (w .records (destination (g .frame))) (g .frame) (w .queues (destination (g .frame)))) a)
     go g (offerAnswer.Refused k) t = refused-facts (suc p) k w
     go g (offerAnswer.Held count ready) t = record { few = tt; small = (h, omega (arith, t)); grown = (_, refl) }
 
@@ -81,6 +86,14 @@ deliver-facts n limit w j l h =
     go (deliverAnswer.Frame d) t =
         record {
           few = omega (arith, t .few);
-          small = (h, omega (arith, issue-most 1 (record { kind = d .kind; from = d .from; number = d .number }) j (frames (w .log)), length-map (w .log) (λ (g : Issue). g .frame)), omega (arith, t .tried));
+          small = (
+            h,
+            omega (
+              arith,
+              issue-most 1 (record { kind = d .kind; from = d .from; number = d .number }) j (frames (w .log)),
+              length-map (w .log) (λ (g : Issue). g .frame),
+            ),
+            omega (arith, t .tried),
+          );
           grown = (_, refl);
         }

@@ -27,7 +27,8 @@ use Rattle.simulation.specs.declared.Taken.{Taken}
 use Rattle.simulation.specs.declared.Yard.{Yard as StoredYard}
 
 -- a line and those behind it, and what stands behind the last line feed
-lines-more : (n : ℕ) (z : Yard) (t : List ℕ) (ps : List (List ℕ)) → 1 ≤ length ps → lines n z (t ∷ ps) ≡ line n z (command t) .printed ++ lines n (line n z (command t) .yard) ps
+lines-more : (n : ℕ) (z : Yard) (t : List ℕ) (ps : List (List ℕ)) → 1 ≤ length ps
+    → lines n z (t ∷ ps) ≡ line n z (command t) .printed ++ lines n (line n z (command t) .yard) ps
 unfolding lines
 lines-more n z t [] h = absurd (omega arith)
 lines-more n z t (p ∷ ps) h = refl
@@ -49,19 +50,26 @@ pub record Running (n cap : ℕ) (s : List ℕ) (from : ℕ) (o₀ : List ℕ) (
   pub end : pos + length (left n s yard at) ≡ length (left n s (opened n cap) from)
   pub bytes : put o pos (left n s yard at) ≡ put o₀ 0 (left n s (opened n cap) from)
 
-pub running-starts : (n cap : ℕ) (s : List ℕ) (from : ℕ) (o : List ℕ) (y : StoredYard) (q l : List ℕ) → Holds n cap maxIssues 0 (start n cap) (y .world) q l → y .counters ≡ noCounters → Running n cap s from o y q l o from 0
-running-starts n cap s from o y q l h e = record { yard = opened n cap; steps = 0; few = omega arith; stands = record { world = h; counters = e }; end = zero-add _; bytes = refl }
+pub running-starts : (n cap : ℕ) (s : List ℕ) (from : ℕ) (o : List ℕ) (y : StoredYard) (q l : List ℕ) → Holds n cap maxIssues 0 (start n cap) (y .world) q l
+    → y .counters ≡ noCounters → Running n cap s from o y q l o from 0
+running-starts n cap s from o y q l h e =
+    record { yard = opened n cap; steps = 0; few = omega arith; stands = record { world = h; counters = e }; end = zero-add _; bytes = refl }
 
-pub running-standing : (n cap : ℕ) (s : List ℕ) (from : ℕ) (o₀ : List ℕ) (y : StoredYard) (q l o : List ℕ) (at pos : ℕ) → Running n cap s from o₀ y q l o at pos → at < 999999999 → Standing maxIssues (y .world) q l
-running-standing n cap s from o₀ y q l o at pos r h = record { n = n; cap = cap; k = r .steps; world = r .yard .world; more = omega (arith, r .few); holds = r .stands .world }
+pub running-standing : (n cap : ℕ) (s : List ℕ) (from : ℕ) (o₀ : List ℕ) (y : StoredYard) (q l o : List ℕ) (at pos : ℕ) → Running n cap s from o₀ y q l o at pos
+    → at < 999999999 → Standing maxIssues (y .world) q l
+running-standing n cap s from o₀ y q l o at pos r h =
+    record { n = n; cap = cap; k = r .steps; world = r .yard .world; more = omega (arith, r .few); holds = r .stands .world }
 
 -- the next line
-module _ (n cap : ℕ) (s : List ℕ) (from : ℕ) (o₀ : List ℕ) (y : StoredYard) (q l o : List ℕ) (at pos end : ℕ) (r : Running n cap s from o₀ y q l o at pos) (e : end ≡ at + before 10 (drop at s)) (h : end < length s) where
+module _ (n cap : ℕ) (s : List ℕ) (from : ℕ) (o₀ : List ℕ) (y : StoredYard) (q l o : List ℕ) (at pos end : ℕ) (r : Running n cap s from o₀ y q l o at pos)
+    (e : end ≡ at + before 10 (drop at s)) (h : end < length s) where
   abbrev a : AfterLine
   a = line n (r .yard) (command (take (end - at) (drop at s)))
 
   left-more : left n s (r .yard) at ≡ a .printed ++ left n s (a .yard) (end + 1)
-  left-more = ap (lines n (r .yard)) (split-found 10 s at end e h) ∙ lines-more n (r .yard) (take (end - at) (drop at s)) (split 10 (drop (end + 1) s)) (split-some 10 (drop (end + 1) s))
+  left-more =
+      ap (lines n (r .yard)) (split-found 10 s at end e h)
+      ∙ lines-more n (r .yard) (take (end - at) (drop at s)) (split 10 (drop (end + 1) s)) (split-some 10 (drop (end + 1) s))
 
   pub running-goes : (t : Taken) (q′ l′ o′ : List ℕ) → Took n cap (r .steps) a pos o t q′ l′ o′ → Running n cap s from o₀ (t .yard) q′ l′ o′ (end + 1) (t .end)
   running-goes t q′ l′ o′ k =
@@ -76,21 +84,28 @@ module _ (n cap : ℕ) (s : List ℕ) (from : ℕ) (o₀ : List ℕ) (y : Stored
       }
 
 -- the end of the input
-module _ (n cap : ℕ) (s : List ℕ) (from : ℕ) (o₀ : List ℕ) (y : StoredYard) (q l o : List ℕ) (at pos end : ℕ) (r : Running n cap s from o₀ y q l o at pos) (e : end ≡ at + before 10 (drop at s)) (h : end ≡ length s) (inside : at ≤ length s) where
+module _ (n cap : ℕ) (s : List ℕ) (from : ℕ) (o₀ : List ℕ) (y : StoredYard) (q l o : List ℕ) (at pos end : ℕ) (r : Running n cap s from o₀ y q l o at pos)
+    (e : end ≡ at + before 10 (drop at s)) (h : end ≡ length s) (inside : at ≤ length s) where
   -- whether bytes stand behind the last line feed
   rest-test : cond (eqb (length (drop at s)) 0) [] (refusalRow 17) ≡ cond (ltb at end) (refusalRow 17) []
   rest-test = go (decLt at end)
     where
       go : Dec (at < end) → cond (eqb (length (drop at s)) 0) [] (refusalRow 17) ≡ cond (ltb at end) (refusalRow 17) []
-      go (yes p) = cond-no (eqb (length (drop at s)) 0) [] (refusalRow 17) (ne→neqb (length (drop at s)) 0 (λ (z : length (drop at s) ≡ 0). omega (arith, length-drop at s))) ∙ rw (lt-ltb at end p)
-      go (no p) = cond-yes (eqb (length (drop at s)) 0) [] (refusalRow 17) (eq→eqb (length (drop at s)) 0 (omega (arith, length-drop at s))) ∙ rw (le-ltb at end (omega arith))
+      go (yes p) =
+          cond-no (eqb (length (drop at s)) 0) [] (refusalRow 17)
+          (ne→neqb (length (drop at s)) 0 (λ (z : length (drop at s) ≡ 0). omega (arith, length-drop at s))) ∙ rw (lt-ltb at end p)
+      go (no p) =
+          cond-yes (eqb (length (drop at s)) 0) [] (refusalRow 17) (eq→eqb (length (drop at s)) 0 (omega (arith, length-drop at s)))
+          ∙ rw (le-ltb at end (omega arith))
 
   left-last : (t : Counters) → t ≡ y .counters → left n s (r .yard) at ≡ cond (ltb at end) (refusalRow 17) [] ++ totalRow t
   left-last t c =
       ap (lines n (r .yard)) (split-none 10 s at end e h inside) ∙ lines-last n (r .yard) (drop at s)
-      ∙ ap (λ (x : List ℕ). x ++ totalRow (r .yard .counters)) rest-test ∙ ap (λ (x : Counters). cond (ltb at end) (refusalRow 17) [] ++ totalRow x) (sym (c ∙ r .stands .counters))
+      ∙ ap (λ (x : List ℕ). x ++ totalRow (r .yard .counters)) rest-test
+      ∙ ap (λ (x : Counters). cond (ltb at end) (refusalRow 17) [] ++ totalRow x) (sym (c ∙ r .stands .counters))
 
-  pub running-ends : (t : Counters) → t ≡ y .counters → (m : ℕ) (o′ : List ℕ) → m ≡ pos + length (cond (ltb at end) (refusalRow 17) [] ++ totalRow t) → o′ ≡ put o pos (cond (ltb at end) (refusalRow 17) [] ++ totalRow t)
+  pub running-ends : (t : Counters) → t ≡ y .counters → (m : ℕ) (o′ : List ℕ) → m ≡ pos + length (cond (ltb at end) (refusalRow 17) [] ++ totalRow t)
+      → o′ ≡ put o pos (cond (ltb at end) (refusalRow 17) [] ++ totalRow t)
       → WroteWhole (left n s (opened n cap) from) o₀ m o′
   running-ends t c m o′ em eo =
       let k = left-last t c in

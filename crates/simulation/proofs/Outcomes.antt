@@ -22,7 +22,8 @@ pub shown-first : (p q : List ℕ) (r : ℕ) (o o′ : List ℕ) → p ≡ q →
 shown-first p q r o o′ e l b = (l ∙ ap length (sym e), b ∙ ap (put o 0) (sym e))
 
 -- one line behind the other
-pub shown-both : (p q : List ℕ) (at r s : ℕ) (o o′ o″ : List ℕ) → r ≡ at + length p → o′ ≡ put o at p → s ≡ r + length q → o″ ≡ put o′ r q → Wrote (p ++ q) at o s o″
+pub shown-both : (p q : List ℕ) (at r s : ℕ) (o o′ o″ : List ℕ) → r ≡ at + length p → o′ ≡ put o at p → s ≡ r + length q
+    → o″ ≡ put o′ r q → Wrote (p ++ q) at o s o″
 shown-both p q at r s o o′ o″ l b m d = (omega (arith, length-append p q), rw (d, b, l) (sym (put-append o at p q)))
 
 module _ (x : ℕ) (o : Outcome) where
@@ -46,7 +47,8 @@ module _ (x : ℕ) (o : Outcome) where
   unfolding printedBy
   printed-delivered is i k m e = ap (printedBy x is) e
 
-  pub shown-delivered : (i k m : ℕ) → o ≡ outcome.Delivered i k m → (is : List ℕ) (at r s : ℕ) (b b′ b″ : List ℕ) → r ≡ at + length (row 68 (x ∷ i ∷ k ∷ [])) → b′ ≡ put b at (row 68 (x ∷ i ∷ k ∷ []))
+  pub shown-delivered : (i k m : ℕ) → o ≡ outcome.Delivered i k m → (is : List ℕ) (at r s : ℕ) (b b′ b″ : List ℕ) → r ≡ at + length (row 68 (x ∷ i ∷ k ∷ []))
+      → b′ ≡ put b at (row 68 (x ∷ i ∷ k ∷ []))
       → s ≡ r + length is → b″ ≡ put b′ r is → Wrote (printedBy x is o) at b s b″
   shown-delivered i k m e is at r s b b′ b″ l p n q =
       let z = shown-both (row 68 (x ∷ i ∷ k ∷ [])) is at r s b b′ b″ l p n q in

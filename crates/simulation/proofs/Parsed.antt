@@ -65,7 +65,8 @@ with-one k l i (Is a) e w =
     let b = value-below 3 i a e in
     cond-elim (InLine k) (eqb (letter l) 65) (command.Offer a) (cond (eqb (letter l) 68) (command.Deliver a) command.Other)
     (λ t. (omega (arith, letter-one l 65 (omega arith) (eqb→eq (letter l) 65 t)), b))
-    (λ f. cond-elim (InLine k) (eqb (letter l) 68) (command.Deliver a) command.Other (λ t. (omega (arith, letter-one l 68 (omega arith) (eqb→eq (letter l) 68 t)), b)) (λ t. tt))
+    (λ f. cond-elim (InLine k) (eqb (letter l) 68) (command.Deliver a) command.Other
+    (λ t. (omega (arith, letter-one l 68 (omega arith) (eqb→eq (letter l) 68 t)), b)) (λ t. tt))
 
 with-two : (k : ℕ) (l i j : List ℕ) (u v : Number) → value 3 i ≡ u → value 3 j ≡ v → length l + length i + 1 ≤ k → InLine k (withTwo (letter l) u v)
 unfolding withTwo
@@ -73,7 +74,8 @@ with-two k l i j Not v e d w = tt
 with-two k l i j (Is a) Not e d w = tt
 with-two k l i j (Is a) (Is b) e d w =
     let s = number-some i a e in
-    cond-elim (InLine k) (eqb (letter l) 83) (command.Send a b) command.Other (λ t. omega (arith, letter-one l 83 (omega arith) (eqb→eq (letter l) 83 t))) (λ t. tt)
+    cond-elim (InLine k) (eqb (letter l) 83) (command.Send a b) command.Other
+    (λ t. omega (arith, letter-one l 83 (omega arith) (eqb→eq (letter l) 83 t))) (λ t. tt)
 
 of-pieces : (k : ℕ) (ps : List (List ℕ)) → weight ps ≡ k + 1 → InLine k (ofPieces ps)
 unfolding weight ofPieces

@@ -27,14 +27,26 @@ unfolding row spaced decimal digits
 refusal-17 = refl
 
 pub two-numbers : (l a b : ℕ) → a < 1000 → b < 100 → length (row l (a ∷ b ∷ [])) ≤ 9
-two-numbers l a b h i = omega (arith, length-row-cons l a (b ∷ []), length-row-cons l b [], length-row-nil l, decimal-few 3 a (omega arith) h, decimal-few 2 b (omega arith) i)
+two-numbers l a b h i =
+    omega (arith, length-row-cons l a (b ∷ []), length-row-cons l b [], length-row-nil l, decimal-few 3 a (omega arith) h, decimal-few 2 b (omega arith) i)
 
 pub three-numbers : (l a b c : ℕ) → a < 1000 → b < 100 → c < 100 → length (row l (a ∷ b ∷ c ∷ [])) ≤ 12
 three-numbers l a b c h i j =
-    omega (arith, length-row-cons l a (b ∷ c ∷ []), two-numbers l b c (omega arith) j, length-row-cons l b (c ∷ []), length-row-cons l c [], length-row-nil l, decimal-few 3 a (omega arith) h, decimal-few 2 b (omega arith) i, decimal-few 2 c (omega arith) j)
+    omega (
+      arith,
+      length-row-cons l a (b ∷ c ∷ []),
+      two-numbers l b c (omega arith) j,
+      length-row-cons l b (c ∷ []),
+      length-row-cons l c [],
+      length-row-nil l,
+      decimal-few 3 a (omega arith) h,
+      decimal-few 2 b (omega arith) i,
+      decimal-few 2 c (omega arith) j,
+    )
 
 -- five numbers of 32 bits
-pub total-most : (l a b c d e : ℕ) → a < 4294967296 → b < 4294967296 → c < 4294967296 → d < 4294967296 → e < 4294967296 → length (row l (a ∷ b ∷ c ∷ d ∷ e ∷ [])) ≤ 57
+pub total-most : (l a b c d e : ℕ) → a < 4294967296 → b < 4294967296 → c < 4294967296 → d < 4294967296 → e < 4294967296
+    → length (row l (a ∷ b ∷ c ∷ d ∷ e ∷ [])) ≤ 57
 total-most l a b c d e ha hb hc hd he =
     omega (
       arith,
@@ -80,7 +92,8 @@ header-printed m at r k h o p ek l er ep =
     (omega arith, (er ∙ ap (λ (x : List ℕ). at + length x) e, ep ∙ ap (put o at) e))
 
 -- the lines of the frames from place i on: one line and the others, or none
-rows-more : (f : List (List ℕ)) (i : ℕ) → i < length f → issueRows (i + 1) (drop i f) ≡ headerRow (i + 1) (header (getD f i [])) ++ issueRows (i + 1 + 1) (drop (i + 1) f)
+rows-more : (f : List (List ℕ)) (i : ℕ) → i < length f
+    → issueRows (i + 1) (drop i f) ≡ headerRow (i + 1) (header (getD f i [])) ++ issueRows (i + 1 + 1) (drop (i + 1) f)
 unfolding issueRows
 rows-more f i h =
     let e : suc i ≡ i + 1 = omega arith in

@@ -26,7 +26,8 @@ use Rattle.simulation.specs.declared.Ran.{Ran}
 use Rattle.simulation.specs.declared.Ran.the-variants as ran
 
 -- the start in two local arrays of zeros
-pub stored-start : (n c : ℕ) → startable n (c ∷ c ∷ c ∷ c ∷ []) ≡ true → (w : World) → w ≡ fresh n (c ∷ c ∷ c ∷ c ∷ []) → (i j : ℕ) → i ≡ queueSize * maxSimulated → j ≡ logSize maxIssues
+pub stored-start : (n c : ℕ) → startable n (c ∷ c ∷ c ∷ c ∷ []) ≡ true → (w : World) → w ≡ fresh n (c ∷ c ∷ c ∷ c ∷ []) → (i j : ℕ)
+    → i ≡ queueSize * maxSimulated → j ≡ logSize maxIssues
     → Holds n c maxIssues 0 (start n c) w (replicate i 0) (replicate j 0)
 unfolding zeros
 stored-start n c s w e i j a b =
@@ -71,7 +72,8 @@ module _ (s : List ℕ) where
     output-first l f g =
         rw (le-ltb maxInput (length s) h)
         (ap ofLines (split-found 10 s 0 end e l) ∙ lines-first (take (end - 0) s) (split 10 (drop (end + 1) s)) (split-some 10 (drop (end + 1) s))
-        ∙ ap (λ (k : ℕ). started (firstLine (take k s)) (split 10 (drop (end + 1) s))) (sub-zero end) ∙ ap (λ (x : FirstLine). started x (split 10 (drop (end + 1) s))) g)
+        ∙ ap (λ (k : ℕ). started (firstLine (take k s)) (split 10 (drop (end + 1) s))) (sub-zero end)
+        ∙ ap (λ (x : FirstLine). started x (split 10 (drop (end + 1) s))) g)
 
     pub output-other : end < length s → firstLine (take end s) ≡ first.Other → output s ≡ alone
     output-other l g = output-first l first.Other g ∙ started-other (split 10 (drop (end + 1) s))
@@ -81,7 +83,8 @@ pub run-short : (s o : List ℕ) → length o < outputSize → afterRun ran.TooS
 unfolding runCall
 run-short s o h = rw (lt-ltb (length o) outputSize h)
 
-pub run-written : (s o : List ℕ) → outputSize ≤ length o → (p : List ℕ) → output s ≡ p → (r : ℕ) (o′ : List ℕ) → r ≡ length p → o′ ≡ put o 0 p → afterRun (ran.Written r) o′ ≡ runCall s o
+pub run-written : (s o : List ℕ) → outputSize ≤ length o → (p : List ℕ) → output s ≡ p → (r : ℕ) (o′ : List ℕ) → r ≡ length p → o′ ≡ put o 0 p
+    → afterRun (ran.Written r) o′ ≡ runCall s o
 unfolding runCall
 run-written s o h p e r o′ er eo =
     rw (le-ltb (length o) outputSize h) (ap₂ (λ (x : ℕ) (y : List ℕ). afterRun (ran.Written x) y) (er ∙ ap length (sym e)) (eo ∙ ap (put o 0) (sym e)))

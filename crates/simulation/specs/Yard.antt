@@ -89,7 +89,10 @@ countedBy t (outcome.Delivered issue tried extras) = countedDelivery t extras
 -- what a step leaves and prints
 abbrev pub afterStep : Yard → ℕ → AfterStep → AfterLine
 afterStep y x a =
-    record { yard = record { world = a .world; counters = countedBy (y .counters) (a .outcome) }; printed = printedBy x (newRows (y .world) (a .world)) (a .outcome) }
+    record {
+      yard = record { world = a .world; counters = countedBy (y .counters) (a .outcome) };
+      printed = printedBy x (newRows (y .world) (a .world)) (a .outcome);
+    }
 
 -- a line of a yard of n nodes: S i j, A m, D j, and 17 for another line
 unfoldable pub line : ℕ → Yard → Command → AfterLine

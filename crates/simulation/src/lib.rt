@@ -61,7 +61,9 @@ fn run_lines(
     out: &mut [u8],
 ) -> usize
     requires { ⌜ Opened w (now queues) (now log) × (from ≤ length (now input)) × (length (now input) ≤ maxInput) × (outputSize ≤ length (now out)) ⌝ }
-    ensures { λ r. ⌜ (r ≤ outputSize) × ((n cap : ℕ) → Holds n cap maxIssues 0 (start n cap) w (now (queues .entry)) (now (log .entry)) → WroteWhole (lines n (opened n cap) (split 10 (drop from (now (input .entry))))) (now (out .entry)) r (now (out .exit))) ⌝ }
+    ensures { λ r. ⌜ (r ≤ outputSize)
+        × ((n cap : ℕ) → Holds n cap maxIssues 0 (start n cap) w (now (queues .entry)) (now (log .entry))
+        → WroteWhole (lines n (opened n cap) (split 10 (drop from (now (input .entry))))) (now (out .entry)) r (now (out .exit))) ⌝ }
 {
     let counters = counters::no_counters();
     let mut yard = Yard { world: w, counters };
@@ -82,7 +84,8 @@ fn run_lines(
 // A yard of these sizes on the lines from `at` on, where they are in range. Gives how many bytes are printed.
 fn run_sizes(n: usize, cap: usize, input: &[u8], at: usize, out: &mut [u8]) -> usize
     requires { ⌜ (at ≤ length (now input)) × (length (now input) ≤ maxInput) × (outputSize ≤ length (now out)) ⌝ }
-    ensures { λ r. ⌜ (r ≤ outputSize) × WroteWhole (started (first.Sizes n cap) (split 10 (drop at (now (input .entry))))) (now (out .entry)) r (now (out .exit)) ⌝ }
+    ensures { λ r. ⌜ (r ≤ outputSize) × WroteWhole (started (first.Sizes n cap) (split 10 (drop at (now (input .entry)))))
+        (now (out .entry)) r (now (out .exit)) ⌝ }
 {
     let caps = [cap; world::MAX_SIMULATED];
     if !world::start::startable(n, caps) {

@@ -29,8 +29,11 @@ fn conclude(
     out: &mut [u8],
     at: usize,
 ) -> Taken
-    requires { ⌜ Few (s .outcome) × Small x (s .outcome) × Logged from (s .world .issued) place (now log) × (at + 20 + 17 * (s .world .issued - from) ≤ length (now out)) ⌝ }
-    ensures { λ r. ⌜ (r .yard .world ≡ s .world) × (r .yard .counters ≡ countedBy t (s .outcome)) × (r .end ≤ at + 20 + 17 * (s .world .issued - from)) × ((f : List (List ℕ)) → InLog from (s .world .issued) place (now (log .entry)) f → Wrote (printedBy x (issueRows (from + 1) (drop from f)) (s .outcome)) at (now (out .entry)) (r .end) (now (out .exit))) ⌝ }
+    requires { ⌜ Few (s .outcome) × Small x (s .outcome) × Logged from (s .world .issued) place (now log)
+        × (at + 20 + 17 * (s .world .issued - from) ≤ length (now out)) ⌝ }
+    ensures { λ r. ⌜ (r .yard .world ≡ s .world) × (r .yard .counters ≡ countedBy t (s .outcome)) × (r .end ≤ at + 20 + 17 * (s .world .issued - from))
+        × ((f : List (List ℕ)) → InLog from (s .world .issued) place (now (log .entry)) f
+        → Wrote (printedBy x (issueRows (from + 1) (drop from f)) (s .outcome)) at (now (out .entry)) (r .end) (now (out .exit))) ⌝ }
 {
     let outcome = s.outcome;
     let to = s.world.issued;
@@ -46,7 +49,9 @@ fn conclude(
 // S: a send.
 fn send(y: Yard, i: usize, j: usize, log: &mut [u8], out: &mut [u8], at: usize) -> Taken
     requires { ⌜ StandingRecords maxIssues (y .world) (now log) × Room at y (now out) ⌝ }
-    ensures { λ r. ⌜ (r .end + 17 * y .world .issued ≤ at + 20 + 17 * r .yard .world .issued) × ((n cap k : ℕ) (z : Lists) (q : List ℕ) → k + 1 < 1000000000 → Stands n cap k z y q (now (log .entry)) → Took n cap k (line n z (command.Send i j)) at (now (out .entry)) r q (now (log .exit)) (now (out .exit))) ⌝ }
+    ensures { λ r. ⌜ (r .end + 17 * y .world .issued ≤ at + 20 + 17 * r .yard .world .issued)
+        × ((n cap k : ℕ) (z : Lists) (q : List ℕ) → k + 1 < 1000000000 → Stands n cap k z y q (now (log .entry))
+        → Took n cap k (line n z (command.Send i j)) at (now (out .entry)) r q (now (log .exit)) (now (out .exit))) ⌝ }
 {
     let from = y.world.issued;
     let place = y.world.end;
@@ -59,7 +64,9 @@ fn send(y: Yard, i: usize, j: usize, log: &mut [u8], out: &mut [u8], at: usize) 
 // A: an offer.
 fn offer(y: Yard, m: usize, queues: &mut [u8], log: &[u8], out: &mut [u8], at: usize) -> Taken
     requires { ⌜ (m < 1000) × Standing maxIssues (y .world) (now queues) (now log) × Room at y (now out) ⌝ }
-    ensures { λ r. ⌜ (r .end + 17 * y .world .issued ≤ at + 20 + 17 * r .yard .world .issued) × ((n cap k : ℕ) (z : Lists) → k + 1 < 1000000000 → Stands n cap k z y (now (queues .entry)) (now (log .entry)) → Took n cap k (line n z (command.Offer m)) at (now (out .entry)) r (now (queues .exit)) (now (log .entry)) (now (out .exit))) ⌝ }
+    ensures { λ r. ⌜ (r .end + 17 * y .world .issued ≤ at + 20 + 17 * r .yard .world .issued)
+        × ((n cap k : ℕ) (z : Lists) → k + 1 < 1000000000 → Stands n cap k z y (now (queues .entry)) (now (log .entry))
+        → Took n cap k (line n z (command.Offer m)) at (now (out .entry)) r (now (queues .exit)) (now (log .entry)) (now (out .exit))) ⌝ }
 {
     let from = y.world.issued;
     let place = y.world.end;
@@ -72,7 +79,9 @@ fn offer(y: Yard, m: usize, queues: &mut [u8], log: &[u8], out: &mut [u8], at: u
 // D: a deliver.
 fn deliver(y: Yard, j: usize, queues: &mut [u8], log: &mut [u8], out: &mut [u8], at: usize) -> Taken
     requires { ⌜ (j < 1000) × Standing maxIssues (y .world) (now queues) (now log) × Room at y (now out) ⌝ }
-    ensures { λ r. ⌜ (r .end + 17 * y .world .issued ≤ at + 20 + 17 * r .yard .world .issued) × ((n cap k : ℕ) (z : Lists) → k + 1 < 1000000000 → Stands n cap k z y (now (queues .entry)) (now (log .entry)) → Took n cap k (line n z (command.Deliver j)) at (now (out .entry)) r (now (queues .exit)) (now (log .exit)) (now (out .exit))) ⌝ }
+    ensures { λ r. ⌜ (r .end + 17 * y .world .issued ≤ at + 20 + 17 * r .yard .world .issued)
+        × ((n cap k : ℕ) (z : Lists) → k + 1 < 1000000000 → Stands n cap k z y (now (queues .entry)) (now (log .entry))
+        → Took n cap k (line n z (command.Deliver j)) at (now (out .entry)) r (now (queues .exit)) (now (log .exit)) (now (out .exit))) ⌝ }
 {
     let from = y.world.issued;
     let place = y.world.end;
@@ -92,7 +101,9 @@ pub fn take(
     at: usize,
 ) -> Taken
     requires { ⌜ Standing maxIssues (y .world) (now queues) (now log) × Room at y (now out) ⌝ }
-    ensures { λ r. ⌜ (r .end + 17 * y .world .issued ≤ at + 5 * (length (now (text .entry)) + 1) + 17 * r .yard .world .issued) × ((n cap k : ℕ) (z : Lists) → k + 1 < 1000000000 → Stands n cap k z y (now (queues .entry)) (now (log .entry)) → Took n cap k (line n z (command (now (text .entry)))) at (now (out .entry)) r (now (queues .exit)) (now (log .exit)) (now (out .exit))) ⌝ }
+    ensures { λ r. ⌜ (r .end + 17 * y .world .issued ≤ at + 5 * (length (now (text .entry)) + 1) + 17 * r .yard .world .issued)
+        × ((n cap k : ℕ) (z : Lists) → k + 1 < 1000000000 → Stands n cap k z y (now (queues .entry)) (now (log .entry))
+        → Took n cap k (line n z (command (now (text .entry)))) at (now (out .entry)) r (now (queues .exit)) (now (log .exit)) (now (out .exit))) ⌝ }
 {
     let c = commands::parse_command(text);
     match c {

@@ -66,7 +66,9 @@ pub fn put_issues(
     to: usize,
 ) -> usize
     requires { ⌜ Logged from to place (now log) × (at + 17 * (to - from) ≤ length (now out)) ⌝ }
-    ensures { λ r. ⌜ (r ≤ at + 17 * (to - from)) × ((f : List (List ℕ)) → InLog from to place (now (log .entry)) f → Wrote (issueRows (from + 1) (drop from f)) at (now (out .entry)) r (now (out .exit))) ⌝ }
+    ensures { λ r. ⌜ (r ≤ at + 17 * (to - from))
+        × ((f : List (List ℕ)) → InLog from to place (now (log .entry)) f
+        → Wrote (issueRows (from + 1) (drop from f)) at (now (out .entry)) r (now (out .exit))) ⌝ }
 {
     let mut end = at;
     let mut next = place;
@@ -92,7 +94,9 @@ pub fn put_outcome(
     to: usize,
 ) -> usize
     requires { ⌜ Small x o × Logged from to place (now log) × (at + 20 + 17 * (to - from) ≤ length (now out)) ⌝ }
-    ensures { λ r. ⌜ (r ≤ at + 20 + 17 * (to - from)) × ((f : List (List ℕ)) → InLog from to place (now (log .entry)) f → Wrote (printedBy x (issueRows (from + 1) (drop from f)) o) at (now (out .entry)) r (now (out .exit))) ⌝ }
+    ensures { λ r. ⌜ (r ≤ at + 20 + 17 * (to - from))
+        × ((f : List (List ℕ)) → InLog from to place (now (log .entry)) f
+        → Wrote (printedBy x (issueRows (from + 1) (drop from f)) o) at (now (out .entry)) r (now (out .exit))) ⌝ }
 {
     match o {
         Outcome::Refused(why) => put_refusal(out, at, why),

@@ -78,7 +78,8 @@ module _ (r : Record) (q : List ℕ) (s : SoundState r q) (free : T (not (atLimi
     next : number g ≡ suc (vector (r .deliv) (g .from))
     next =
         let most : g .entries (g .from) (r .me) ≤ vector (r .deliv) (g .from) = deliverable-le (nodeAt r q) g (hit .1) (g .from) sender in
-        let most′ : g .entries (g .from) (g .to) ≤ vector (r .deliv) (g .from) = subst (λ (y : ℕ). g .entries (g .from) y ≤ vector (r .deliv) (g .from)) (sym (taken .here)) most in
+        let most′ : g .entries (g .from) (g .to) ≤ vector (r .deliv) (g .from)
+        = subst (λ (y : ℕ). g .entries (g .from) y ≤ vector (r .deliv) (g .from)) (sym (taken .here)) most in
         omega (arith, taken .new)
 
     -- the vector and the matrix afterwards
@@ -113,7 +114,9 @@ module _ (r : Record) (q : List ℕ) (s : SoundState r q) (free : T (not (atLimi
         above = subst (λ (f : ℕ). vector (r .deliv) f < number (decode x)) z (arrives (bare r) (decode x) (left h x a .arrives) .new)
 
         go : Dec (number (decode x) ≡ number g) → vector v (decode x .from) < number (decode x)
-        go (yes n) = absurd (skip-ne j h (apart r q s (skip j h) j (decode x) g (at-map decode (frames r q s) (skip j h) x (without-at j (frames r q s) h x a)) (removed .at) z n))
+        go (yes n) =
+            absurd (skip-ne j h (apart r q s (skip j h) j (decode x) g
+            (at-map decode (frames r q s) (skip j h) x (without-at j (frames r q s) h x a)) (removed .at) z n))
         go (no n) = subst (λ (f : ℕ). vector v f < number (decode x)) (sym z) (omega (arith, raised, next, above))
 
     others-apart : Apart (map decode others)
@@ -123,9 +126,12 @@ module _ (r : Record) (q : List ℕ) (s : SoundState r q) (free : T (not (atLimi
     after = record {
       matrix =
           keeps-array (r .n) (r .me) (r .cap) (entry (r .m)) _ (facts r q s .range .atMost12)
-          (learn-keeps (r .n) (r .me) (r .cap) (facts r q s .range) (entry (r .m)) (facts r q s .rules) (facts r q s .few) (facts r q s .limit) (limit-row (nodeAt r q) free (facts r q s .limit))
+          (learn-keeps (r .n) (r .me) (r .cap) (facts r q s .range) (entry (r .m)) (facts r q s .rules) (facts r q s .few) (facts r q s .limit)
+          (limit-row (nodeAt r q) free (facts r q s .limit))
           (g .entries) (g .from) (entries .rules) (entries .limit) (taken .claims) (g .kind) (vector (r .deliv)) (heldMessages (r .held) q));
-      own = stays (r .me) (omega (arith, facts r q s .range .below, facts r q s .range .atMost12)) (λ z. entries .apart (sym z ∙ sym (taken .here))) ∙ facts r q s .own;
+      own =
+          stays (r .me) (omega (arith, facts r q s .range .below, facts r q s .range .atMost12))
+          (λ z. entries .apart (sym z ∙ sym (taken .here))) ∙ facts r q s .own;
       limit = λ x h. most x h (ℕ-discrete x (g .from));
       zero = λ x h k. stays x h (λ z. omega (arith, entries .from)) ∙ facts r q s .vectorZero x h k;
       frames = left;
@@ -140,7 +146,9 @@ module _ (r : Record) (q : List ℕ) (s : SoundState r q) (free : T (not (atLimi
   -- what the search led to
   module _ (out body : List ℕ) where
     abbrev Left : Search → Type 0
-    Left f = let c : AfterDeliver = acceptDeliver r q out body (conclude (nodeAt r q) f) (delivery ((conclude (nodeAt r q) f) .answer)) in SoundState (c .result .node) (c .queue)
+    Left f =
+        let c : AfterDeliver = acceptDeliver r q out body (conclude (nodeAt r q) f) (delivery ((conclude (nodeAt r q) f) .answer)) in
+        SoundState (c .result .node) (c .queue)
 
     pub delivered : Left (searched r q)
     delivered = go (ℕ-discrete (placeOf (searched r q)) 0)
@@ -152,4 +160,5 @@ module _ (r : Record) (q : List ℕ) (s : SoundState r q) (free : T (not (atLimi
             let x = found-held (deliverable (nodeAt r q)) (r .held) q j (omega arith) in
             let z : suc j - 1 ≡ j = omega arith in
             subst Left (sym (x .1))
-            (subst (λ (k : ℕ). SoundState (with r (m j (x .0) (x .1)) (v j (x .0) (x .1)) (length (map decode (without j (frames r q s))))) (laid (without k (frames r q s)))) (sym z) (found-follows j (x .0) (x .1)))
+            (subst (λ (k : ℕ). SoundState (with r (m j (x .0) (x .1)) (v j (x .0) (x .1)) (length (map decode (without j (frames r q s)))))
+            (laid (without k (frames r q s)))) (sym z) (found-follows j (x .0) (x .1)))

@@ -39,7 +39,8 @@ use Rattle.rules.proofs.Kept.{rules-kept}
 use Rattle.rules.specs.Rules.{inRange}
 use Rattle.soundness.proofs.Deliveries.{delivered}
 use Rattle.soundness.proofs.Matrices.{keeps-array, send-keeps}
-use Rattle.soundness.proofs.States.{Follows, apart, as-many, bare, each-kept, facts, follows, frames, laid-out, same-matrix, size, snoc-apart, still-new, with}
+use Rattle.soundness.proofs.States.{Follows, apart, as-many, bare, each-kept, facts, follows, frames}
+use Rattle.soundness.proofs.States.{laid-out, same-matrix, size, snoc-apart, still-new, with}
 use Rattle.soundness.specs.HandedBack.{HandedBack, SoundState}
 use Rattle.wire.proofs.Tests.{cond-elim, is-true}
 
@@ -80,7 +81,8 @@ empty-right d = queue-right d [] (omega arith) (λ h s a. absurd (at-none h s a)
 fresh : (me n cap : ℕ) → setUpNumber (setUp me n cap .answer) ≡ 0 → SoundState (setUp me n cap .node) (zeros queueSize)
 unfolding setUp
 fresh me n cap e =
-    cond-elim (λ (x : SetUp). setUpNumber (x .answer) ≡ 0 → SoundState (x .node) (zeros queueSize)) (inRange me n cap) (record { answer = Ready; node = freshRecord me n cap }) (record { answer = Refused 1; node = freshRecord 0 0 0 })
+    cond-elim (λ (x : SetUp). setUpNumber (x .answer) ≡ 0 → SoundState (x .node) (zeros queueSize)) (inRange me n cap)
+    (record { answer = Ready; node = freshRecord me n cap }) (record { answer = Refused 1; node = freshRecord 0 0 0 })
     (λ t _. record { not2 = fresh-kept me n cap (ranged me n cap (is-true (inRange me n cap) t)); not4 = empty-right (nodeOf (freshRecord me n cap) []) })
     (λ _ z. absurd (omega arith)) e
 
@@ -88,13 +90,16 @@ fresh me n cap e =
 
 module _ (r : Record) (q : List ℕ) (s : SoundState r q) where
   -- a send that is not refused
-  sent : (to body out : ℕ) → Sendable r to body out → SoundState (with r (flat (trimFor 12 (r .me) (r .n) (r .cap) (clear (r .me) to (entry (r .m))) .matrix)) (r .deliv) (r .held)) q
+  sent : (to body out : ℕ) → Sendable r to body out
+      → SoundState (with r (flat (trimFor 12 (r .me) (r .n) (r .cap) (clear (r .me) to (entry (r .m))) .matrix)) (r .deliv) (r .held)) q
   sent to body out k =
       let u = facts r q s in
       let m : List ℕ = flat (trimFor 12 (r .me) (r .n) (r .cap) (clear (r .me) to (entry (r .m))) .matrix) in
       let f : Follows r m (r .deliv) (frames r q s)
       = record {
-        matrix = keeps-array (r .n) (r .me) (r .cap) (entry (r .m)) _ (u .range .atMost12) (send-keeps (r .n) (r .me) (r .cap) (u .range) (entry (r .m)) (u .rules) (u .few) (u .limit) (k .below) to (k .destination) (k .other));
+        matrix =
+            keeps-array (r .n) (r .me) (r .cap) (entry (r .m)) _ (u .range .atMost12)
+            (send-keeps (r .n) (r .me) (r .cap) (u .range) (entry (r .m)) (u .rules) (u .few) (u .limit) (k .below) to (k .destination) (k .other));
         own = u .own;
         limit = u .vectorLimit;
         zero = u .vectorZero;
@@ -110,7 +115,9 @@ module _ (r : Record) (q : List ℕ) (s : SoundState r q) where
   sends to body out = go (ℕ-discrete (sendRefusal r to (length body) (length out)) 0)
     where
       go : Dec (sendRefusal r to (length body) (length out) ≡ 0) → SoundState (sendCall r to body out .result .node) q
-      go (yes z) = subst (λ (c : AfterSend). SoundState (c .result .node) q) (send-accepted r to body out z) (sent to (length body) (length out) (sendable r to (length body) (length out) z))
+      go (yes z) =
+          subst (λ (c : AfterSend). SoundState (c .result .node) q) (send-accepted r to body out z)
+          (sent to (length body) (length out) (sendable r to (length body) (length out) z))
       go (no h) = subst (λ (c : AfterSend). SoundState (c .result .node) q) (send-refused r to body out (sendRefusal r to (length body) (length out)) refl h) s
 
   -- 12 to 14 do not look at the queue
@@ -119,7 +126,8 @@ module _ (r : Record) (q : List ℕ) (s : SoundState r q) where
   arrives-bare g e = e
 
   -- an offer that is not refused
-  held : (x : List ℕ) → Offerable r x q → SoundState (with r (r .m) (r .deliv) (length (map decode (frames r q s) ++ (decode x ∷ [])))) (laid (frames r q s ++ (x ∷ [])))
+  held : (x : List ℕ) → Offerable r x q
+      → SoundState (with r (r .m) (r .deliv) (length (map decode (frames r q s) ++ (decode x ∷ [])))) (laid (frames r q s ++ (x ∷ [])))
   held x k =
       let u = facts r q s in
       let l : List (List ℕ) = frames r q s in
@@ -152,9 +160,14 @@ module _ (r : Record) (q : List ℕ) (s : SoundState r q) where
       k : ℕ
       k = deliverRefusal r q (shortOutputs (length out) (length body))
 
-      go : Dec (deliverRefusal r q (shortOutputs (length out) (length body)) ≡ 0) → (let c : AfterDeliver = deliverCall r q out body in SoundState (c .result .node) (c .queue))
-      go (yes z) = subst (λ (c : AfterDeliver). SoundState (c .result .node) (c .queue)) (deliver-accepted r q out body z) (delivered r q s (deliver-ready r q (length out) (length body) z .free) out body)
-      go (no h) = subst (λ (c : AfterDeliver). SoundState (c .result .node) (c .queue)) (deliver-refused r q out body (deliverRefusal r q (shortOutputs (length out) (length body))) refl h) s
+      go : Dec (deliverRefusal r q (shortOutputs (length out) (length body)) ≡ 0)
+          → (let c : AfterDeliver = deliverCall r q out body in SoundState (c .result .node) (c .queue))
+      go (yes z) =
+          subst (λ (c : AfterDeliver). SoundState (c .result .node) (c .queue)) (deliver-accepted r q out body z)
+          (delivered r q s (deliver-ready r q (length out) (length body) z .free) out body)
+      go (no h) =
+          subst (λ (c : AfterDeliver). SoundState (c .result .node) (c .queue))
+          (deliver-refused r q out body (deliverRefusal r q (shortOutputs (length out) (length body))) refl h) s
 
 pub handedBack : HandedBack
 handedBack = record { fresh = fresh; sends = sends; offers = offers; delivers = delivers; size = size }

@@ -76,7 +76,8 @@ module _ (n me cap : ℕ) (range : Ranged me n cap) (m : Matrix) (rules : Matrix
 
     pub send-keeps : Keeps n me cap m (trimFor 12 me n cap (clear me to m) .matrix)
     send-keeps =
-        let k : Keeps n me cap c (trimFor 12 me n cap c .matrix) = trim-keeps n me cap range c (clear-rules n me to m rules (range .below) inside other) (λ x y. most x y (ℕ-discrete x me)) (λ y h. free y h (ℕ-discrete y to)) in
+        let k : Keeps n me cap c (trimFor 12 me n cap c .matrix) = trim-keeps n me cap range c (clear-rules n me to m rules (range .below) inside other)
+        (λ x y. most x y (ℕ-discrete x me)) (λ y h. free y h (ℕ-discrete y to)) in
         record { rules = k .rules; few = k .few; limit = k .limit; grows = λ y. omega (arith, clear-row me to m y, k .grows y) }
       where
         own : (y : ℕ) → Dec (y ≡ to) → c me y ≤ maxCount
@@ -97,7 +98,8 @@ module _ (n me cap : ℕ) (range : Ranged me n cap) (m : Matrix) (rules : Matrix
     merged : (x y : ℕ) → (merge me m e x y ≡ m x y) ⊎ (merge me m e x y ≡ max (m x y) (e x y))
     merged x y = go (learned-case user me m e x y)
       where
-        go : (merge me m e x y ≡ m x y) ⊎ ((y ≢ me) × (merge me m e x y ≡ max (m x y) (e x y))) → (merge me m e x y ≡ m x y) ⊎ (merge me m e x y ≡ max (m x y) (e x y))
+        go : (merge me m e x y ≡ m x y) ⊎ ((y ≢ me) × (merge me m e x y ≡ max (m x y) (e x y)))
+            → (merge me m e x y ≡ m x y) ⊎ (merge me m e x y ≡ max (m x y) (e x y))
         go (inl q) = inl q
         go (inr q) = inr (q .1)
 
@@ -111,9 +113,11 @@ module _ (n me cap : ℕ) (range : Ranged me n cap) (m : Matrix) (rules : Matrix
     merged-own : (y : ℕ) → y < 12 → merge me m e me y < maxCount
     merged-own y h = ⊎-elim (λ q. omega (arith, q, below y h)) (λ q. omega (arith, q, below y h, claims y h)) (merged me y)
 
-    pub learn-keeps : (k : Kind) (v : ℕ → ℕ) (l : List Message) → Keeps n me cap m (learn k (record { me = me; n = n; cap = cap; matrix = m; deliv = v; held = l }) e .matrix)
+    pub learn-keeps : (k : Kind) (v : ℕ → ℕ) (l : List Message)
+        → Keeps n me cap m (learn k (record { me = me; n = n; cap = cap; matrix = m; deliv = v; held = l }) e .matrix)
     learn-keeps extra v l = record { rules = rules; few = few; limit = limit; grows = λ y. omega arith }
     learn-keeps user v l =
         let k : Keeps n me cap (merge me m e) (trimFor 12 me n cap (merge me m e) .matrix)
-        = trim-keeps n me cap range (merge me m e) (learned-rules user n me j m e rules carried) merged-most (λ y h. inl (merged-own y (omega (arith, range .atMost12)))) in
+        = trim-keeps n me cap range (merge me m e) (learned-rules user n me j m e rules carried) merged-most
+        (λ y h. inl (merged-own y (omega (arith, range .atMost12)))) in
         record { rules = k .rules; few = k .few; limit = k .limit; grows = λ y. omega (arith, merged-grows me y, k .grows y) }

@@ -73,7 +73,11 @@ module _ (r : Record) where
         let k = arrives bare (decode s) (f .frames h s a .arrives) in
         record {
           passes = f .frames h s a .passes;
-          arrives = arrives-back (nodeOf (with m v (length l)) []) (decode s) (record { here = k .here; claims = λ y q. omega (arith, k .claims y q, f .matrix .grows y); new = f .new h s a });
+          arrives = arrives-back (nodeOf (with m v (length l)) []) (decode s) (record {
+            here = k .here;
+            claims = λ y q. omega (arith, k .claims y q, f .matrix .grows y);
+            new = f .new h s a;
+          });
         }
 
     pub follows : SoundState (with m v (length l)) (laid l)
@@ -122,5 +126,6 @@ snoc-apart l m f t h k a b x y from n = go (at-snoc l m h a x) (at-snoc l m k b 
     go : Snoc l m h a → Snoc l m k b → h ≡ k
     go (inl p) (inl o) = f h k a b p o from n
     go (inl p) (inr o) = absurd (T-not (someSameOrigin l m) t (origin-some l m h a p (from ∙ ap (λ (z : Message). z .from) (o .1)) (n ∙ ap number (o .1))))
-    go (inr p) (inl o) = absurd (T-not (someSameOrigin l m) t (origin-some l m k b o (sym from ∙ ap (λ (z : Message). z .from) (p .1)) (sym n ∙ ap number (p .1))))
+    go (inr p) (inl o) =
+        absurd (T-not (someSameOrigin l m) t (origin-some l m k b o (sym from ∙ ap (λ (z : Message). z .from) (p .1)) (sym n ∙ ap number (p .1))))
     go (inr p) (inr o) = p .0 ∙ sym (o .0)

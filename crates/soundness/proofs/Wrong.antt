@@ -32,7 +32,8 @@ first = 1 ∷ 1 ∷ 0 ∷ 0 ∷ 0 ∷ 2 ∷ 2 ∷ 0 ∷ 8 ∷ 0 ∷ 14 ∷ 0 ∷
 
 -- an offer of it that counts without laying it: the next offer or deliver would be refused with 4
 not-laid : wrongQueue (nodeOf (node (replicate 144 0) 0 1) []) 1 (zeros queueSize) ≡ true
-unfolding wrongQueue sameBytes someRefused heldRefused frameRefusal wrongTrailer hasTrailer countBack sumBack checksum total u16At heldFrames frameIn header ownLength slots padded zeros
+unfolding wrongQueue sameBytes someRefused heldRefused frameRefusal wrongTrailer hasTrailer countBack sumBack checksum total u16At heldFrames frameIn header
+    ownLength slots padded zeros
 not-laid = refl
 
 pub counts-without-laying : SoundState (node (replicate 144 0) 0 1) (zeros queueSize) → ⊥

@@ -87,7 +87,8 @@ pub split-none : (c : ℕ) (s : List ℕ) (at z : ℕ) → z ≡ at + before c (
 split-none c s at z e h l = split-whole c (drop at s) (rw length-drop (omega arith))
 
 -- where it stands nowhere, the last piece goes up to z
-pub split-last : (c : ℕ) (s : List ℕ) (at z : ℕ) → z ≡ at + before c (drop at s) → z ≡ length s → at ≤ length s → split c (drop at s) ≡ take (z - at) (drop at s) ∷ []
+pub split-last : (c : ℕ) (s : List ℕ) (at z : ℕ) → z ≡ at + before c (drop at s) → z ≡ length s → at ≤ length s
+    → split c (drop at s) ≡ take (z - at) (drop at s) ∷ []
 split-last c s at z e h l =
     let whole : take (z - at) (drop at s) ≡ drop at s = take-all (z - at) (drop at s) (rw length-drop (omega arith)) in
     split-none c s at z e h l ∙ rw whole

@@ -76,7 +76,8 @@ digits-read (suc k) v p h = go (decLt v 10) (λ q. digits-read k (v / 10) q (par
     go (yes l) more = rw (digits-one k v l) (last-digit 0 v v l (omega arith))
     go (no l) more =
         let m : 10 ≤ v = omega arith in
-        rw (digits-more k v m) (continued-append 0 (v / 10) (digits k (v / 10)) ((48 + v % 10) ∷ []) (more (two-digits k v h m)) ∙ last-digit (v / 10) (v % 10) v (omega arith) (omega arith))
+        rw (digits-more k v m) (continued-append 0 (v / 10) (digits k (v / 10)) ((48 + v % 10) ∷ []) (more (two-digits k v h m))
+        ∙ last-digit (v / 10) (v % 10) v (omega arith) (omega arith))
 
 -- of a number of one digit, and of a number below 10,000,000,000 with more
 pub decimal-one : (v : ℕ) → v < 10 → decimal v ≡ (48 + v) ∷ []
@@ -155,10 +156,20 @@ printing-starts start vs o = record { turns = omega arith; same = refl; room = r
 pub printing-fits : (l at : ℕ) (vs o₀ o : List ℕ) (end i : ℕ) → Printing (at + 1) vs (set o₀ at l) o end i → at + length (row l vs) ≤ length o₀ → i < length vs
     → end + 1 + length (decimal (getD vs i 0)) ≤ length o
 printing-fits l at vs o₀ o end i k f h =
-    omega (arith, ap length (row-goes vs i h), length-append (decimal (getD vs i 0)) (remaining (drop (i + 1) vs)), ap length (row-starts l vs), length-set o₀ at l, k .room, k .same)
+    omega (
+      arith,
+      ap length (row-goes vs i h),
+      length-append (decimal (getD vs i 0)) (remaining (drop (i + 1) vs)),
+      ap length (row-starts l vs),
+      length-set o₀ at l,
+      k .room,
+      k .same,
+    )
 
-pub printing-last : (l at : ℕ) (vs o₀ o : List ℕ) (end i : ℕ) → Printing (at + 1) vs (set o₀ at l) o end i → at + length (row l vs) ≤ length o₀ → length vs ≤ i → end + 1 ≤ length o
-printing-last l at vs o₀ o end i k f h = omega (arith, ap length (row-ends vs i h (k .turns)), ap length (row-starts l vs), length-set o₀ at l, k .room, k .same)
+pub printing-last : (l at : ℕ) (vs o₀ o : List ℕ) (end i : ℕ) → Printing (at + 1) vs (set o₀ at l) o end i
+    → at + length (row l vs) ≤ length o₀ → length vs ≤ i → end + 1 ≤ length o
+printing-last l at vs o₀ o end i k f h =
+    omega (arith, ap length (row-ends vs i h (k .turns)), ap length (row-starts l vs), length-set o₀ at l, k .room, k .same)
 
 pub printing-goes : (start : ℕ) (vs o₀ o p : List ℕ) (end next i : ℕ) → Printing start vs o₀ o end i → i < length vs
     → next ≡ end + 1 + length (decimal (getD vs i 0)) → p ≡ put (set o end 32) (end + 1) (decimal (getD vs i 0)) → Printing start vs o₀ p next (i + 1)

@@ -16,9 +16,15 @@ pub trim-bytes : (k me n cap : ℕ) (m : Matrix) → length (framesOf (trimFor k
 unfolding trimFor
 trim-bytes zero me n cap m = rw frames-nil (omega arith)
 trim-bytes (suc k) me n cap m =
-    cond-elim (λ (t : Trimmed). length (framesOf (t .extras)) ≤ 84 * suc k) (leb (count m) cap) (untouched m) (issuing (extraMessage me (fullest m) n cap m) later)
+    cond-elim (λ (t : Trimmed). length (framesOf (t .extras)) ≤ 84 * suc k) (leb (count m) cap) (untouched m)
+    (issuing (extraMessage me (fullest m) n cap m) later)
     (λ _. rw frames-nil (omega arith))
-    (λ _. omega (arith, length-frames (extraMessage me (fullest m) n cap m) (later .extras), extra-le me (fullest m) n cap m (fullest-lt m), trim-bytes k me n cap (clear me (fullest m) m)))
+    (λ _. omega (
+      arith,
+      length-frames (extraMessage me (fullest m) n cap m) (later .extras),
+      extra-le me (fullest m) n cap m (fullest-lt m),
+      trim-bytes k me n cap (clear me (fullest m) m),
+    ))
   where
     later : Trimmed
     later = trimFor k me n cap (clear me (fullest m) m)

@@ -30,7 +30,8 @@ pub record Issuing (o₀ : List ℕ) (at : ℕ) (whole : Trimmed) (o : List ℕ)
   pub bytes : put o pos (framesOf (left .extras)) ≡ put o₀ at (framesOf (whole .extras))
 
 -- the frame of the first message that is left is written
-issuing-one : (o₀ : List ℕ) (at : ℕ) (whole : Trimmed) (o : List ℕ) (pos i : ℕ) (left : Trimmed) (x : Message) (later : Trimmed) (o′ : List ℕ) (pos′ : ℕ) → Issuing o₀ at whole o pos i left
+issuing-one : (o₀ : List ℕ) (at : ℕ) (whole : Trimmed) (o : List ℕ) (pos i : ℕ) (left : Trimmed) (x : Message) (later : Trimmed) (o′ : List ℕ) (pos′ : ℕ)
+    → Issuing o₀ at whole o pos i left
     → left ≡ issuing x later → o′ ≡ put o pos (encode x) → pos′ ≡ pos + length (encode x) → Issuing o₀ at whole o′ pos′ (i + 1) later
 issuing-one o₀ at whole o pos i left x later o′ pos′ w e p q =
     let first : Issuing o₀ at whole o pos i (issuing x later) = rw e at w in
@@ -43,7 +44,8 @@ issuing-one o₀ at whole o pos i left x later o′ pos′ w e p q =
     }
 
 -- nothing is left but the matrix m
-issuing-end : (o₀ : List ℕ) (at : ℕ) (whole : Trimmed) (o : List ℕ) (pos i : ℕ) (left : Trimmed) (m : Matrix) → Issuing o₀ at whole o pos i left → left ≡ untouched m
+issuing-end : (o₀ : List ℕ) (at : ℕ) (whole : Trimmed) (o : List ℕ) (pos i : ℕ) (left : Trimmed) (m : Matrix)
+    → Issuing o₀ at whole o pos i left → left ≡ untouched m
     → (m ≡ whole .matrix) × (o ≡ put o₀ at (framesOf (whole .extras))) × (pos ≡ at + length (framesOf (whole .extras))) × (i ≡ length (whole .extras))
 issuing-end o₀ at whole o pos i left m w e =
     let last : Issuing o₀ at whole o pos i (untouched m) = rw e at w in
@@ -55,13 +57,15 @@ module _ (me n cap : ℕ) (m : Matrix) where
   unfolding trimFor
   trim-none zero h = refl
   trim-none (suc k) h =
-      cond-yes (leb (count m) cap) (untouched m) (issuing (extraMessage me (fullest m) n cap m) (trimFor k me n cap (clear me (fullest m) m))) (le→leb (count m) cap h)
+      cond-yes (leb (count m) cap) (untouched m)
+      (issuing (extraMessage me (fullest m) n cap m) (trimFor k me n cap (clear me (fullest m) m))) (le→leb (count m) cap h)
 
   -- with more than cap one is made
   trim-more : (k : ℕ) → cap < count m → trimFor (suc k) me n cap m ≡ issuing (extraMessage me (fullest m) n cap m) (trimFor k me n cap (clear me (fullest m) m))
   unfolding trimFor
   trim-more k h =
-      cond-no (leb (count m) cap) (untouched m) (issuing (extraMessage me (fullest m) n cap m) (trimFor k me n cap (clear me (fullest m) m))) (lt→nleb (count m) cap h)
+      cond-no (leb (count m) cap) (untouched m)
+      (issuing (extraMessage me (fullest m) n cap m) (trimFor k me n cap (clear me (fullest m) m))) (lt→nleb (count m) cap h)
 
 -- after i rounds: the array l, the output o and the place pos behind the frames in it, where they were l₀, o₀ and `at`
 pub record Trimming (me n cap at : ℕ) (l₀ o₀ l o : List ℕ) (pos i : ℕ) : Type 0 where
@@ -81,26 +85,36 @@ module _ (me n cap at : ℕ) (l₀ o₀ : List ℕ) where
   -- before the first round all is left
   pub trimming-start : length l₀ ≡ 144 → ((x y : ℕ) → entry l₀ x y ≤ maxCount) → Trimming me n cap at l₀ o₀ l₀ o₀ at 0
   trimming-start e s =
-      record { rounds = omega arith; size = e; room = omega arith; small = λ x y. omega (arith, s x y); issued = record { same = refl; matrix = refl; extras = zero-add _; place = refl; bytes = refl } }
+      record {
+        rounds = omega arith;
+        size = e;
+        room = omega arith;
+        small = λ x y. omega (arith, s x y);
+        issued = record { same = refl; matrix = refl; extras = zero-add _; place = refl; bytes = refl };
+      }
 
   module _ {l o : List ℕ} {pos i : ℕ} (K : Trimming me n cap at l₀ o₀ l o pos i) where
     -- one round more
     pub trimming-round : {l′ o′ : List ℕ} {pos′ : ℕ} → me < 12 → i < 12 → cap < count (entry l) → l′ ≡ flat (clear me (fullest (entry l)) (entry l))
-        → o′ ≡ put o pos (encode (extraMessage me (fullest (entry l)) n cap (entry l))) → pos′ ≡ pos + length (encode (extraMessage me (fullest (entry l)) n cap (entry l)))
+        → o′ ≡ put o pos (encode (extraMessage me (fullest (entry l)) n cap (entry l)))
+        → pos′ ≡ pos + length (encode (extraMessage me (fullest (entry l)) n cap (entry l)))
         → Trimming me n cap at l₀ o₀ l′ o′ pos′ (i + 1)
     trimming-round {l′} {o′} {pos′} hm h more el eo ep =
         let m : Matrix = entry l in
         let j : ℕ = fullest m in
         let x : Message = extraMessage me j n cap m in
         let rounds : 12 - i ≡ suc (12 - (i + 1)) = omega arith in
-        let left : trimFor (12 - i) me n cap m ≡ issuing x (trimFor (12 - (i + 1)) me n cap (clear me j m)) = rw rounds (trim-more me n cap m (12 - (i + 1)) more) in
+        let left : trimFor (12 - i) me n cap m ≡ issuing x (trimFor (12 - (i + 1)) me n cap (clear me j m))
+        = rw rounds (trim-more me n cap m (12 - (i + 1)) more) in
         let back : entry l′ ≡ clear me j m = ap entry el ∙ clear-back me j l hm (fullest-lt m) in
         record {
           rounds = omega arith;
           size = ap length el ∙ length-flat (clear me j m);
           room = omega (arith, K .room, extra-le me j n cap m (fullest-lt m));
           small = λ a b. rw back (omega (arith, K .small a b, clear-le me j m a b));
-          issued = rw back (issuing-one o₀ at (trimFor 12 me n cap (entry l₀)) o pos i (trimFor (12 - i) me n cap m) x (trimFor (12 - (i + 1)) me n cap (clear me j m)) o′ pos′ (K .issued) left eo ep);
+          issued =
+              rw back (issuing-one o₀ at (trimFor 12 me n cap (entry l₀)) o pos i (trimFor (12 - i) me n cap m) x
+              (trimFor (12 - (i + 1)) me n cap (clear me j m)) o′ pos′ (K .issued) left eo ep);
         }
 
     -- nothing is left but the matrix as it stands

@@ -22,7 +22,9 @@ pub struct Issued {
 // One round: writes the extra frame to the fullest column from `at` on, clears that column, and gives the place after the frame.
 fn round(m: &mut [u32; 144], out: &mut [u8], at: usize, me: u8, n: u8, cap: u8) -> usize
     requires { ⌜ (length (now m) ≡ 144) × (me < 12) × (at + 84 ≤ length (now out)) × ((x y : ℕ) → entry (now m) x y < 4294967295) ⌝ }
-    ensures { λ r. ⌜ (let m₀ : Matrix = entry (now (m .entry)) in let f : List ℕ = encode (extraMessage me (fullest m₀) n cap m₀) in (now (m .exit) ≡ flat (clear me (fullest m₀) m₀)) × (now (out .exit) ≡ put (now (out .entry)) at f) × (r ≡ at + length f)) ⌝ }
+    ensures { λ r. ⌜ (let m₀ : Matrix = entry (now (m .entry)) in
+        let f : List ℕ = encode (extraMessage me (fullest m₀) n cap m₀) in
+        (now (m .exit) ≡ flat (clear me (fullest m₀) m₀)) × (now (out .exit) ≡ put (now (out .entry)) at f) × (r ≡ at + length f)) ⌝ }
 {
     let l = matrix::fullest(m);
     let a = Address {
@@ -39,7 +41,9 @@ fn round(m: &mut [u32; 144], out: &mut [u8], at: usize, me: u8, n: u8, cap: u8) 
 /// Issues extra frames into `out` from `at` on until at most cap entries of m are non-zero.
 pub fn trim(m: &mut [u32; 144], out: &mut [u8], at: usize, me: u8, n: u8, cap: u8) -> Issued
     requires { ⌜ (length (now m) ≡ 144) × (me < 12) × (at + 1008 ≤ length (now out)) × ((x y : ℕ) → entry (now m) x y ≤ maxCount) ⌝ }
-    ensures { λ r. ⌜ (let t : Trimmed = trimFor 12 me n cap (entry (now (m .entry))) in (now (m .exit) ≡ flat (t .matrix)) × (now (out .exit) ≡ put (now (out .entry)) at (framesOf (t .extras))) × (r .at ≡ at + length (framesOf (t .extras))) × (r .extras ≡ length (t .extras))) ⌝ }
+    ensures { λ r. ⌜ (let t : Trimmed = trimFor 12 me n cap (entry (now (m .entry))) in
+        (now (m .exit) ≡ flat (t .matrix)) × (now (out .exit) ≡ put (now (out .entry)) at (framesOf (t .extras)))
+        × (r .at ≡ at + length (framesOf (t .extras))) × (r .extras ≡ length (t .extras))) ⌝ }
 {
     let mut pos = at;
     let mut extras: u32 = 0;

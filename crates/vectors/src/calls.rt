@@ -1,4 +1,5 @@
-//! The node's four calls, made on the script's records and queues, and their answers printed. Outputs are lent full of the byte 165, so that what a call leaves as it was can be told.
+//! The node's four calls, made on the script's records and queues, and their answers printed.
+//! Outputs are lent full of the byte 165, so that what a call leaves as it was can be told.
 use super::print;
 use super::show;
 use node::DeliverAnswer;

@@ -1,6 +1,8 @@
-//! Worked examples of the node, run through its compiled calls. Standard input is a script with one command to a line; each line is printed as it stands, and below it, indented by two spaces, what the command shows. A second implementation can run the same script.
+//! Worked examples of the node, run through its compiled calls. Standard input is a script with one command to a line; each line is printed as it stands,
+//! and below it, indented by two spaces, what the command shows. A second implementation can run the same script.
 //!
-//! There are twelve records and twelve queues, numbered from 0, a log of issued frames, numbered from 1, and one frame at hand. All are zero and empty at first. A number has at most ten digits; one that is missing is 0.
+//! There are twelve records and twelve queues, numbered from 0, a log of issued frames, numbered from 1, and one frame at hand.
+//! All are zero and empty at first. A number has at most ten digits; one that is missing is 0.
 //!
 //! - `# text`: a comment.
 //! - `Z`: everything as at first.
@@ -13,10 +15,12 @@
 //! - `A k y a b v`: write v at M[x,y] of record k for each row x from a to b but y.
 //! - `Q k p v`: write byte p of queue k. `P k p`: put the frame at hand into slot p of queue k, with zeros behind it.
 //! - `F i`: take issue i of the log as the frame at hand.
-//! - `X kind from to e b n cap`: a new frame at hand: this header, e entries of zeros, a body of b bytes, a trailer of zeros. `E i row column value`: write its entry i, from 0.
+//! - `X kind from to e b n cap`: a new frame at hand: this header, e entries of zeros, a body of b bytes, a trailer of zeros.
+//!   `E i row column value`: write its entry i, from 0.
 //! - `B p v`: write byte p of the frame at hand. `L z`: make it z bytes long. `T`: write its trailer anew, and print it.
 //!
-//! A frame is printed in base 16: header, entries, body and trailer parted by spaces. A refusal is printed with `all kept` where record and lent buffers are as they were, and with `CHANGED` otherwise; an answer whose call wrote more than it counts is marked `MORE WRITTEN`.
+//! A frame is printed in base 16: header, entries, body and trailer parted by spaces. A refusal is printed with `all kept` where record and lent buffers are as
+//! they were, and with `CHANGED` otherwise; an answer whose call wrote more than it counts is marked `MORE WRITTEN`.
 mod calls;
 mod print;
 mod show;

@@ -68,9 +68,18 @@ module _ (o : List ℕ) (at end : ℕ) (h : at ≤ end) (room : end + 4 ≤ leng
       let size : length (run ++ le16 (end - at)) ≡ end + 2 - at = rw (length-append, run-length, two) (omega arith) in
       let front : take end o ≡ take at o ++ run = ap (λ (k : ℕ). take k o) (sym seam) ∙ take-add at (end - at) o in
       let rest = drop (end + length (le16 (end - at))) o in
-      rw (put-eq o end (le16 (end - at)) (omega arith), front, append-assoc, drop-at (take at o) (run ++ (le16 (end - at) ++ rest)) at (length-take-le at o (omega arith)), ← append-assoc run (le16 (end - at)) rest, take-at (run ++ le16 (end - at)) rest (end + 2 - at) size, run-length)
+      rw (
+        put-eq o end (le16 (end - at)) (omega arith),
+        front,
+        append-assoc,
+        drop-at (take at o) (run ++ (le16 (end - at) ++ rest)) at (length-take-le at o (omega arith)),
+        ← append-assoc run (le16 (end - at)) rest,
+        take-at (run ++ le16 (end - at)) rest (end + 2 - at) size,
+        run-length,
+      )
 
-  pub put-trailer : put (put o end (le16 (end - at))) (end + 2) (le16 (checksum (take (end + 2 - at) (drop at (put o end (le16 (end - at))))))) ≡ put o end (trailer run)
+  pub put-trailer : put (put o end (le16 (end - at))) (end + 2)
+      (le16 (checksum (take (end + 2 - at) (drop at (put o end (le16 (end - at))))))) ≡ put o end (trailer run)
   unfolding trailer
   put-trailer = rw (with-count, put-append, length-le16, run-length)
 
@@ -114,8 +123,10 @@ pub sealed-has : (s : List ℕ) → length s < 65536 → T (hasTrailer (sealed s
 unfolding hasTrailer
 sealed-has s h =
     let l = length-sealed s in
-    T-and (leb 4 (length (sealed s)) && eqb (countBack (sealed s)) (length (sealed s) - 4)) (eqb (sumBack (sealed s)) (checksum (take (length (sealed s) - 2) (sealed s))))
-    (T-and (leb 4 (length (sealed s))) (eqb (countBack (sealed s)) (length (sealed s) - 4)) (le→leb 4 (length (sealed s)) (omega arith)) (eq→eqb (countBack (sealed s)) (length (sealed s) - 4) (sealed-count s h ∙ omega arith)))
+    T-and (leb 4 (length (sealed s)) && eqb (countBack (sealed s)) (length (sealed s) - 4))
+    (eqb (sumBack (sealed s)) (checksum (take (length (sealed s) - 2) (sealed s))))
+    (T-and (leb 4 (length (sealed s))) (eqb (countBack (sealed s)) (length (sealed s) - 4)) (le→leb 4 (length (sealed s)) (omega arith))
+    (eq→eqb (countBack (sealed s)) (length (sealed s) - 4) (sealed-count s h ∙ omega arith)))
     (eq→eqb (sumBack (sealed s)) (checksum (take (length (sealed s) - 2) (sealed s))) (sealed-sum s ∙ ap checksum (sym (sealed-front s))))
 
 -- what a test that is passed tells
@@ -155,12 +166,16 @@ has-sealed s b e = go (length s - 4) (trailed s e) refl
         let front : take (k + 2) s ≡ counted f =
         take-add k 2 s ∙ ap (λ (l : List ℕ). f ++ l) (two-at s k (omega (arith, t .long)) ∙ sym first) in
         let second : le16 (checksum (counted f)) ≡ getD s (k + 2) 0 ∷ getD s (k + 2 + 1) 0 ∷ [] =
-        ap (λ (l : List ℕ). le16 (checksum l)) (sym front) ∙ ap le16 (sym sum) ∙ two-back (getD s (k + 2) 0) (getD s (k + 2 + 1) 0) (b (k + 2)) (b (k + 2 + 1)) in
+        ap (λ (l : List ℕ). le16 (checksum l)) (sym front) ∙ ap le16 (sym sum)
+        ∙ two-back (getD s (k + 2) 0) (getD s (k + 2 + 1) 0) (b (k + 2)) (b (k + 2 + 1)) in
         let last : drop (k + 2) s ≡ le16 (checksum (counted f)) =
         sym (take-all 2 (drop (k + 2) s) (simp length-drop (omega (arith, t .long)))) ∙ two-at s (k + 2) (omega (arith, t .long)) ∙ sym second in
-        sym (take-append-drop k s) ∙ ap (λ (l : List ℕ). f ++ l) (sym (take-append-drop 2 (drop k s)) ∙ ap₂ _++_ (two-at s k (omega (arith, t .long)) ∙ sym first) (drop-drop 2 k s ∙ last))
+        sym (take-append-drop k s) ∙ ap (λ (l : List ℕ). f ++ l)
+        (sym (take-append-drop 2 (drop k s)) ∙ ap₂ _++_ (two-at s k (omega (arith, t .long)) ∙ sym first) (drop-drop 2 k s ∙ last))
 
 -- bytes with their trailer behind them are bytes
 pub bytes-sealed : (s : List ℕ) → AllBytes s → AllBytes (sealed s)
 unfolding sealed trailer
-bytes-sealed s b = bytes-append s (le16 (length s) ++ le16 (checksum (counted s))) b (bytes-append (le16 (length s)) (le16 (checksum (counted s))) (bytes-le16 (length s)) (bytes-le16 (checksum (counted s))))
+bytes-sealed s b =
+    bytes-append s (le16 (length s) ++ le16 (checksum (counted s))) b
+    (bytes-append (le16 (length s)) (le16 (checksum (counted s))) (bytes-le16 (length s)) (bytes-le16 (checksum (counted s))))

@@ -43,10 +43,13 @@ module _ (n cap limit k : ℕ) (w : World) (s : Stored) (q l : List ℕ) (h : Ho
   deliver-stops t = rw t
 
   pub deliver-17 : (leb n j || exhausted n limit w) ≡ true → DeliverDone (outcome.Refused 17) s q l
-  deliver-17 t = subst (λ (a : AfterStep). (outcome.Refused 17 ≡ a .outcome) × Holds n cap limit (k + 1) (a .world) s q l) (sym (deliver-stops t)) (refl, holds-later n cap limit k w s q l h)
+  deliver-17 t =
+      subst (λ (a : AfterStep). (outcome.Refused 17 ≡ a .outcome) × Holds n cap limit (k + 1) (a .world) s q l) (sym (deliver-stops t))
+      (refl, holds-later n cap limit k w s q l h)
 
   module _ (hj : j < n) (left : length (w .log) + n ≤ limit) (r : Record) (er : r ≡ getD (s .nodes) j noRecord) (width : ℕ) (ez : width ≡ queueSize)
-      (a : Delivery) (p₁ out body : List ℕ) (e : afterDeliver a p₁ out body ≡ deliverCall r (take width (drop (queueSize * j) q)) frameOutput bodyOutput) (long : length p₁ ≡ length (take width (drop (queueSize * j) q))) where
+      (a : Delivery) (p₁ out body : List ℕ) (e : afterDeliver a p₁ out body ≡ deliverCall r (take width (drop (queueSize * j) q)) frameOutput bodyOutput)
+      (long : length p₁ ≡ length (take width (drop (queueSize * j) q))) where
     abbrev c : AfterDeliver
     c = deliverCall (w .records j) (w .queues j) frameOutput bodyOutput
 
@@ -76,15 +79,22 @@ module _ (n cap limit k : ℕ) (w : World) (s : Stored) (q l : List ℕ) (h : Ho
     pub deliver-refused : (why : ℕ) → a .answer ≡ deliverAnswer.Refused why → DeliverDone (outcome.Refused why) s q₁ l
     deliver-refused why t =
         let u : p₁ ≡ queueAt q j = sym (ap (λ (x : AfterDeliver). x .queue) same) ∙ told (deliverAnswer.Refused why) t ∙ sym (h .queues j hj) in
-        subst (λ (x : AfterStep). (outcome.Refused why ≡ x .outcome) × Holds n cap limit (k + 1) (x .world) s q₁ l) (sym (deliver-goes ∙ ap (afterDelivered w j c) t))
-        (refl, subst (λ (y : List ℕ). Holds n cap limit (k + 1) w s y l) (sym (queue-back j width q p₁ few (h .size) ez long u)) (holds-later n cap limit k w s q l h))
+        subst (λ (x : AfterStep). (outcome.Refused why ≡ x .outcome) × Holds n cap limit (k + 1) (x .world) s q₁ l)
+        (sym (deliver-goes ∙ ap (afterDelivered w j c) t)) (
+          refl,
+          subst (λ (y : List ℕ). Holds n cap limit (k + 1) w s y l)
+              (sym (queue-back j width q p₁ few (h .size) ez long u)) (holds-later n cap limit k w s q l h),
+        )
 
     -- the stored world after the call
-    stored : (bytes : List ℕ) (count : ℕ) → joined (framesIn (take (bytesIssued (delivered (c .result .answer))) (c .out))) ≡ bytes → length (framesIn (take (bytesIssued (delivered (c .result .answer))) (c .out))) ≡ count
-        → length (w .log) + count ≤ limit + 11 → s .end + length bytes ≤ length l → (s′ : Stored) (l′ : List ℕ) → s′ ≡ storedAfter s j (c .result .node) count (length bytes) → l′ ≡ write l (s .end) bytes
+    stored : (bytes : List ℕ) (count : ℕ) → joined (framesIn (take (bytesIssued (delivered (c .result .answer))) (c .out))) ≡ bytes
+        → length (framesIn (take (bytesIssued (delivered (c .result .answer))) (c .out))) ≡ count
+        → length (w .log) + count ≤ limit + 11 → s .end + length bytes ≤ length l → (s′ : Stored) (l′ : List ℕ)
+        → s′ ≡ storedAfter s j (c .result .node) count (length bytes) → l′ ≡ write l (s .end) bytes
         → Holds n cap limit (k + 1) (deliverAt w j (delivers j frameOutput bodyOutput) c) s′ q₁ l′
     stored bytes count written many below fits s′ l′ es el =
-        holds-after n cap limit k w s q l h short j hj (delivers j frameOutput bodyOutput) (c .result .node) (c .queue) (delivered (c .result .answer)) (c .out) q₁ bytes count
+        holds-after n cap limit k w s q l h short j hj (delivers j frameOutput bodyOutput) (c .result .node) (c .queue)
+        (delivered (c .result .answer)) (c .out) q₁ bytes count
         (reached-deliver n cap k w (h .reached) j frameOutput bodyOutput hj)
         (queues-length j width q p₁ few (h .size) ez long)
         (queue-here j width q p₁ few (h .size) ez long ∙ sym (ap (λ (x : AfterDeliver). x .queue) same))
@@ -101,7 +111,8 @@ module _ (n cap limit k : ℕ) (w : World) (s : Stored) (q l : List ℕ) (h : Ho
     deliver-nothing tried t =
         let e₀ : bytesIssued (delivered (c .result .answer)) ≡ 0 = tells (deliverAnswer.Nothing tried) t in
         let u = told (deliverAnswer.Nothing tried) t in
-        subst (λ (x : AfterStep). (outcome.Nothing tried ≡ x .outcome) × Holds n cap limit (k + 1) (x .world) s q₁ l) (sym (deliver-goes ∙ ap (afterDelivered w j c) t)) (
+        subst (λ (x : AfterStep). (outcome.Nothing tried ≡ x .outcome) × Holds n cap limit (k + 1) (x .world) s q₁ l)
+        (sym (deliver-goes ∙ ap (afterDelivered w j c) t)) (
           refl,
           stored [] 0 (frames-joined (take (bytesIssued (delivered (c .result .answer))) (c .out)) ∙ ap (λ (x : ℕ). take x (c .out)) e₀)
               (ap (λ (x : ℕ). length (framesIn (take x (c .out)))) e₀ ∙ ap length (cut-nothing (c .out))) (omega (arith, h .below))
@@ -122,15 +133,19 @@ module _ (n cap limit k : ℕ) (w : World) (s : Stored) (q l : List ℕ) (h : Ho
       unfolding logSize
       delivered-room = omega (arith, end-room n cap limit k w s q l h (omega arith), length-take-le (d .bytes) out delivered-inside, facts .most, h .room)
 
-      pub deliver-frame : (issue : ℕ) → issue ≡ issueFrom 1 (record { kind = d .kind; from = d .from; number = d .number }) j (frames (w .log)) → (s′ : Stored) (l′ : List ℕ)
-          → s′ ≡ storedAfter s j (a .node) (d .extras) (length (take (d .bytes) out)) → l′ ≡ write l (s .end) (take (d .bytes) out) → DeliverDone (outcome.Delivered issue (d .tried) (d .extras)) s′ q₁ l′
+      pub deliver-frame : (issue : ℕ)
+          → issue ≡ issueFrom 1 (record { kind = d .kind; from = d .from; number = d .number }) j (frames (w .log)) → (s′ : Stored) (l′ : List ℕ)
+          → s′ ≡ storedAfter s j (a .node) (d .extras) (length (take (d .bytes) out)) → l′ ≡ write l (s .end) (take (d .bytes) out)
+          → DeliverDone (outcome.Delivered issue (d .tried) (d .extras)) s′ q₁ l′
       deliver-frame issue ei s′ l′ es el =
           let f = facts in
           let e₀ : bytesIssued (delivered (c .result .answer)) ≡ d .bytes = tells (deliverAnswer.Frame d) t in
-          subst (λ (x : AfterStep). (outcome.Delivered issue (d .tried) (d .extras) ≡ x .outcome) × Holds n cap limit (k + 1) (x .world) s′ q₁ l′) (sym (deliver-goes ∙ ap (afterDelivered w j c) t)) (
+          subst (λ (x : AfterStep). (outcome.Delivered issue (d .tried) (d .extras) ≡ x .outcome) × Holds n cap limit (k + 1) (x .world) s′ q₁ l′)
+          (sym (deliver-goes ∙ ap (afterDelivered w j c) t)) (
             ap (λ (x : ℕ). outcome.Delivered x (d .tried) (d .extras)) ei,
             stored (take (d .bytes) out) (d .extras)
-                (frames-joined (take (bytesIssued (delivered (c .result .answer))) (c .out)) ∙ ap₂ (λ (x : ℕ) (y : List ℕ). take x y) e₀ (ap (λ (x : AfterDeliver). x .out) same))
+                (frames-joined (take (bytesIssued (delivered (c .result .answer))) (c .out))
+                ∙ ap₂ (λ (x : ℕ) (y : List ℕ). take x y) e₀ (ap (λ (x : AfterDeliver). x .out) same))
                 (ap (λ (x : ℕ). length (framesIn (take x (c .out)))) e₀ ∙ wrote-frames (f .wrote) ∙ f .many)
                 (omega (arith, f .few, h .range .atLeast2)) delivered-room s′ l′
                 (es ∙ ap (λ (x : AfterDeliver). storedAfter s j (x .result .node) (d .extras) (length (take (d .bytes) out))) (sym same)) el,

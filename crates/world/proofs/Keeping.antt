@@ -52,7 +52,13 @@ module _ (n cap limit k : ℕ) (w : World) (s : Stored) (q l : List ℕ) (h : Ho
 
   -- the bytes issued so far leave room for what a call writes
   pub end-room : s .end ≤ maxFrame * length (w .log)
-  end-room = omega (arith, h .end, joined-most (frames (w .log)) (λ p a. issue-facts p (omega (arith, length-map (w .log) (λ (g : Issue). g .frame))) .most), length-map (w .log) (λ (g : Issue). g .frame))
+  end-room =
+      omega (
+        arith,
+        h .end,
+        joined-most (frames (w .log)) (λ p a. issue-facts p (omega (arith, length-map (w .log) (λ (g : Issue). g .frame))) .most),
+        length-map (w .log) (λ (g : Issue). g .frame),
+      )
 
   pub begins-with : (c : ℕ) → c ≤ length (w .log) → BeginsWith c l
   begins-with c a = record { frames = frames (w .log); many = omega (arith, length-map (w .log) (λ (g : Issue). g .frame)); begins = h .begins }
@@ -110,8 +116,10 @@ module _ (n cap limit k : ℕ) (w : World) (s : Stored) (q l : List ℕ) (h : Ho
   new-bytes : take (length (joined (frames (v .log)))) (put l (s .end) bytes) ≡ joined (frames (v .log))
   new-bytes =
       ap (λ (x : List ℕ). take (length (joined (frames (v .log)))) x) (put-eq l (s .end) bytes fits)
-      ∙ ap (λ (x : List ℕ). take (length (joined (frames (v .log)))) (x ++ (bytes ++ drop (s .end + length bytes) l))) (ap (λ (x : ℕ). take x l) (h .end) ∙ h .begins .bytes)
-      ∙ ap (take (length (joined (frames (v .log))))) (sym (append-assoc (joined (frames (w .log))) bytes (drop (s .end + length bytes) l)) ∙ ap (λ (x : List ℕ). x ++ drop (s .end + length bytes) l) (sym new-joined))
+      ∙ ap (λ (x : List ℕ). take (length (joined (frames (v .log)))) (x ++ (bytes ++ drop (s .end + length bytes) l)))
+      (ap (λ (x : ℕ). take x l) (h .end) ∙ h .begins .bytes)
+      ∙ ap (take (length (joined (frames (v .log))))) (sym (append-assoc (joined (frames (w .log))) bytes (drop (s .end + length bytes) l))
+      ∙ ap (λ (x : List ℕ). x ++ drop (s .end + length bytes) l) (sym new-joined))
       ∙ take-at (joined (frames (v .log))) (drop (s .end + length bytes) l) (length (joined (frames (v .log)))) refl
 
   new-sound : (p : ℕ) → p < length (frames (v .log)) → CheckedFrame (getD (frames (v .log)) p [])

@@ -45,7 +45,8 @@ joined-suc : (f : List (List ℕ)) (i : ℕ) → i < length f → joined (take (
 unfolding joined
 joined-suc f i h =
     let e : i + 1 ≡ suc i = omega arith in
-    ap (λ (k : ℕ). joined (take k f)) e ∙ ap joined (take-suc f i [] h) ∙ joined-append (take i f) (getD f i [] ∷ []) ∙ ap (λ (x : List ℕ). joined (take i f) ++ x) (append-nil (getD f i []))
+    ap (λ (k : ℕ). joined (take k f)) e ∙ ap joined (take-suc f i [] h) ∙ joined-append (take i f) (getD f i [] ∷ [])
+    ∙ ap (λ (x : List ℕ). joined (take i f) ++ x) (append-nil (getD f i []))
 
 -- the frames lie inside the log
 pub begins-inside : (f : List (List ℕ)) (l : List ℕ) → Begins f l → length (joined f) ≤ length l
@@ -62,7 +63,8 @@ around : (f : List (List ℕ)) (l : List ℕ) (i : ℕ) → Begins f l → i < l
 around f l i b h = (
   joined (drop (suc i) f) ++ drop (length (joined f)) l,
   sym (take-append-drop (length (joined f)) l)
-      ∙ ap (λ (x : List ℕ). x ++ drop (length (joined f)) l) (b .bytes ∙ ap joined (split-at f i [] h) ∙ joined-append (take i f) (getD f i [] ∷ drop (suc i) f) ∙ ap (λ (x : List ℕ). joined (take i f) ++ x) (joined-one (getD f i []) (drop (suc i) f)))
+      ∙ ap (λ (x : List ℕ). x ++ drop (length (joined f)) l) (b .bytes ∙ ap joined (split-at f i [] h) ∙ joined-append (take i f) (getD f i [] ∷ drop (suc i) f)
+      ∙ ap (λ (x : List ℕ). joined (take i f) ++ x) (joined-one (getD f i []) (drop (suc i) f)))
       ∙ append-assoc (joined (take i f)) (getD f i [] ++ joined (drop (suc i) f)) (drop (length (joined f)) l)
       ∙ ap (λ (x : List ℕ). joined (take i f) ++ x) (append-assoc (getD f i []) (joined (drop (suc i) f)) (drop (length (joined f)) l)),
 )
@@ -83,7 +85,8 @@ log-room f l i at b h e =
     let s : List ℕ = getD f i [] in
     omega (arith, ap length (x .1), length-append (joined (take i f)) (s ++ x .0), length-append s (x .0), checked-own s (b .sound i h), own-least (header s))
 
-pub log-part : (f : List (List ℕ)) (l : List ℕ) (i at end : ℕ) → Begins f l → i < length f → at ≡ length (joined (take i f)) → end ≡ at + ownLength (header (drop at l)) → LogPart f l i at end
+pub log-part : (f : List (List ℕ)) (l : List ℕ) (i at end : ℕ) → Begins f l → i < length f → at ≡ length (joined (take i f))
+    → end ≡ at + ownLength (header (drop at l)) → LogPart f l i at end
 log-part f l i at end b h e z =
     let x = around f l i b h in
     let s : List ℕ = getD f i [] in
@@ -107,11 +110,13 @@ pub issue-hit : (a : Label) (j i : ℕ) (f : List (List ℕ)) → i < length f �
 unfolding issueFrom
 issue-hit a j i f h t = ap (issueFrom (i + 1) a j) (drop-cons f i [] h) ∙ ap (λ (b : Bool). cond b (i + 1) (issueFrom (i + 1 + 1) a j (drop (suc i) f))) t
 
-pub issue-next : (a : Label) (j i : ℕ) (f : List (List ℕ)) → i < length f → named a j (getD f i []) ≡ false → issueFrom (i + 1) a j (drop i f) ≡ issueFrom (i + 1 + 1) a j (drop (i + 1) f)
+pub issue-next : (a : Label) (j i : ℕ) (f : List (List ℕ)) → i < length f → named a j (getD f i []) ≡ false
+    → issueFrom (i + 1) a j (drop i f) ≡ issueFrom (i + 1 + 1) a j (drop (i + 1) f)
 unfolding issueFrom
 issue-next a j i f h t =
     let e : suc i ≡ i + 1 = omega arith in
-    ap (issueFrom (i + 1) a j) (drop-cons f i [] h) ∙ ap (λ (b : Bool). cond b (i + 1) (issueFrom (i + 1 + 1) a j (drop (suc i) f))) t ∙ ap (λ (k : ℕ). issueFrom (i + 1 + 1) a j (drop k f)) e
+    ap (issueFrom (i + 1) a j) (drop-cons f i [] h) ∙ ap (λ (b : Bool). cond b (i + 1) (issueFrom (i + 1 + 1) a j (drop (suc i) f))) t
+    ∙ ap (λ (k : ℕ). issueFrom (i + 1 + 1) a j (drop k f)) e
 
 pub issue-none : (a : Label) (j i k : ℕ) (f : List (List ℕ)) → length f ≤ i → i ≤ length f → issueFrom k a j (drop i f) ≡ 0
 unfolding issueFrom

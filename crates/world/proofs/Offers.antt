@@ -43,7 +43,9 @@ module _ (n cap limit k : ℕ) (w : World) (s : Stored) (q l : List ℕ) (h : Ho
   OfferDone o s′ q′ = (o ≡ offerStep w m .outcome) × Holds n cap limit (k + 1) (offerStep w m .world) s′ q′ l
 
   refused-17 : offerStep w m ≡ refuse 17 w → OfferDone (outcome.Refused 17) s q
-  refused-17 e = subst (λ (a : AfterStep). (outcome.Refused 17 ≡ a .outcome) × Holds n cap limit (k + 1) (a .world) s q l) (sym e) (refl, holds-later n cap limit k w s q l h)
+  refused-17 e =
+      subst (λ (a : AfterStep). (outcome.Refused 17 ≡ a .outcome) × Holds n cap limit (k + 1) (a .world) s q l) (sym e)
+      (refl, holds-later n cap limit k w s q l h)
 
   stops-first : m ≡ 0 → offerStep w m ≡ refuse 17 w
   unfolding offerStep
@@ -90,14 +92,16 @@ module _ (n cap limit k : ℕ) (w : World) (s : Stored) (q l : List ℕ) (h : Ho
 
         same : c ≡ afterOffer a p₁
         same =
-            sym (e ∙ ap (λ (x : Record). offerCall x f (take width (drop (queueSize * j) q))) (er ∙ h .records j offer-to) ∙ ap₂ (λ (x y : List ℕ). offerCall (w .records j) x y) ef (queue-part j width q ez ∙ h .queues j offer-to))
+            sym (e ∙ ap (λ (x : Record). offerCall x f (take width (drop (queueSize * j) q))) (er ∙ h .records j offer-to)
+            ∙ ap₂ (λ (x y : List ℕ). offerCall (w .records j) x y) ef (queue-part j width q ez ∙ h .queues j offer-to))
 
         -- the definition's step
         at-issue : offerStep w (suc p) ≡ afterOffered w j p c (c .result .answer)
         unfolding offerStep
         at-issue =
             ap (offerTo w p) at
-            ∙ ap (λ (x : List ℕ). let i : ℕ = destination x in let d : AfterOffer = offerCall (w .records i) x (w .queues i) in afterOffered w i p d (d .result .answer)) (sym named)
+            ∙ ap (λ (x : List ℕ). let i : ℕ = destination x in
+            let d : AfterOffer = offerCall (w .records i) x (w .queues i) in afterOffered w i p d (d .result .answer)) (sym named)
             ∙ ap (λ (i : ℕ). let d : AfterOffer = offerCall (w .records i) frame (w .queues i) in afterOffered w i p d (d .result .answer)) (sym ej)
 
         goes : offerStep w m ≡ afterOffered w j p c (a .answer)
@@ -115,21 +119,31 @@ module _ (n cap limit k : ℕ) (w : World) (s : Stored) (q l : List ℕ) (h : Ho
         pub offer-refused : (why : ℕ) → a .answer ≡ offerAnswer.Refused why → OfferDone (outcome.Refused why) s q₁
         offer-refused why t =
             let told : c .queue ≡ w .queues j =
-            subst (λ (x : OfferAnswer). OfferTold (w .queues j) x c) (ap (λ (x : AfterOffer). x .result .answer) same ∙ t) (offer-told (w .records j) frame (w .queues j)) in
+            subst (λ (x : OfferAnswer). OfferTold (w .queues j) x c) (ap (λ (x : AfterOffer). x .result .answer) same ∙ t)
+            (offer-told (w .records j) frame (w .queues j)) in
             let u : p₁ ≡ queueAt q j = sym (ap (λ (x : AfterOffer). x .queue) same) ∙ told ∙ sym (h .queues j offer-to) in
-            subst (λ (x : AfterStep). (outcome.Refused why ≡ x .outcome) × Holds n cap limit (k + 1) (x .world) s q₁ l) (sym (goes ∙ ap (afterOffered w j p c) t))
-            (refl, subst (λ (y : List ℕ). Holds n cap limit (k + 1) w s y l) (sym (queue-back j width q p₁ few (h .size) ez long u)) (holds-later n cap limit k w s q l h))
+            subst (λ (x : AfterStep). (outcome.Refused why ≡ x .outcome) × Holds n cap limit (k + 1) (x .world) s q₁ l)
+            (sym (goes ∙ ap (afterOffered w j p c) t)) (
+              refl,
+              subst (λ (y : List ℕ). Holds n cap limit (k + 1) w s y l)
+                  (sym (queue-back j width q p₁ few (h .size) ez long u)) (holds-later n cap limit k w s q l h),
+            )
 
-        pub offer-held : (count : ℕ) (ready : Bool) → a .answer ≡ offerAnswer.Held count ready → (s′ : Stored) → s′ ≡ record { n = s .n; nodes = set (s .nodes) j (a .node); issued = s .issued; end = s .end }
+        pub offer-held : (count : ℕ) (ready : Bool) → a .answer ≡ offerAnswer.Held count ready → (s′ : Stored)
+            → s′ ≡ record { n = s .n; nodes = set (s .nodes) j (a .node); issued = s .issued; end = s .end }
             → OfferDone (outcome.Held count ready) s′ q₁
         offer-held count ready t s′ es =
-            subst (λ (x : AfterStep). (outcome.Held count ready ≡ x .outcome) × Holds n cap limit (k + 1) (x .world) s′ q₁ l) (sym (goes ∙ ap (afterOffered w j p c) t)) (
+            subst (λ (x : AfterStep). (outcome.Held count ready ≡ x .outcome) × Holds n cap limit (k + 1) (x .world) s′ q₁ l)
+            (sym (goes ∙ ap (afterOffered w j p c) t)) (
               refl,
               holds-after n cap limit k w s q l h short j offer-to (offers j p) (c .result .node) (c .queue) (offered (c .result .answer)) [] q₁ [] 0
-                  (subst (λ (x : List ℕ). Reached n cap (k + 1) (offerAt w j (offers j p) (offerCall (w .records j) x (w .queues j)))) (sym named) (reached-offer n cap k w (h .reached) j p g offer-to at))
+                  (subst (λ (x : List ℕ). Reached n cap (k + 1) (offerAt w j (offers j p) (offerCall (w .records j) x (w .queues j)))) (sym named)
+                  (reached-offer n cap k w (h .reached) j p g offer-to at))
                   (queues-length j width q p₁ few (h .size) ez long)
                   (queue-here j width q p₁ few (h .size) ez long ∙ sym (ap (λ (x : AfterOffer). x .queue) same))
                   (λ x hx d. queue-other j width q p₁ few (h .size) ez long x d)
-                  (frames-joined []) (ap length (cut-nothing [])) (omega (arith, h .below)) (omega (arith, h .end, begins-inside (frames (w .log)) l (h .begins))) s′ l
-                  (es ∙ sym (stored-still s j (a .node)) ∙ ap (λ (x : AfterOffer). storedAfter s j (x .result .node) 0 0) (sym same)) (sym (put-nil l (s .end))),
+                  (frames-joined []) (ap length (cut-nothing [])) (omega (arith, h .below))
+                  (omega (arith, h .end, begins-inside (frames (w .log)) l (h .begins))) s′ l
+                  (es ∙ sym (stored-still s j (a .node))
+                  ∙ ap (λ (x : AfterOffer). storedAfter s j (x .result .node) 0 0) (sym same)) (sym (put-nil l (s .end))),
             )

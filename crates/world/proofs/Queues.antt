@@ -39,7 +39,8 @@ module _ (i x : ℕ) (before middle after : List ℕ) (lies : length before ≡ 
       ∙ ap (take queueSize) (drop-append-add before (middle ++ after) (length middle + k) ∙ drop-append-add middle after k)
 
 -- the queue of node i written anew, with bytes p, and the others as they are
-module _ (i width : ℕ) (q p : List ℕ) (hi : i < maxSimulated) (size : length q ≡ queueSize * maxSimulated) (wide : width ≡ queueSize) (long : length p ≡ length (take width (drop (queueSize * i) q))) where
+module _ (i width : ℕ) (q p : List ℕ) (hi : i < maxSimulated) (size : length q ≡ queueSize * maxSimulated) (wide : width ≡ queueSize)
+    (long : length p ≡ length (take width (drop (queueSize * i) q))) where
   abbrev before : List ℕ
   before = take (queueSize * i) q
 
@@ -76,10 +77,20 @@ module _ (i width : ℕ) (q p : List ℕ) (hi : i < maxSimulated) (size : length
           middle-front i x before p after lies new-long l ∙ sym (ap (λ (z : List ℕ). queueAt z x) whole ∙ middle-front i x before old after lies old-long l)
       go (inr t) =
           let l : i ≤ x = nltb→le x i t in
-          middle-behind i x before p after lies new-long (omega arith) ∙ sym (ap (λ (z : List ℕ). queueAt z x) whole ∙ middle-behind i x before old after lies old-long (omega arith))
+          middle-behind i x before p after lies new-long (omega arith)
+          ∙ sym (ap (λ (z : List ℕ). queueAt z x) whole ∙ middle-behind i x before old after lies old-long (omega arith))
 
   pub queues-length : length new ≡ length q
-  queues-length = omega (arith, lies, new-long, length-append before (p ++ after), length-append p after, length-drop width (drop (queueSize * i) q), length-drop (queueSize * i) q)
+  queues-length =
+      omega (
+        arith,
+        lies,
+        new-long,
+        length-append before (p ++ after),
+        length-append p after,
+        length-drop width (drop (queueSize * i) q),
+        length-drop (queueSize * i) q,
+      )
 
   -- the same bytes as before
   pub queue-back : p ≡ queueAt q i → new ≡ q

@@ -22,7 +22,8 @@ use Rattle.causality.proofs.Queues.{sound-issue}
 use Rattle.causality.proofs.Reading.{to-encode}
 use Rattle.causality.proofs.Runs.{run-matches, start-matches}
 use Rattle.causality.proofs.Steps.{forget}
-use Rattle.causality.specs.Demand3.{BodiesOfBytes, Issue, Step, World, run, start, step, sends, offers, delivers, sendAt, offerAt, deliverAt, offerIssue, destination}
+use Rattle.causality.specs.Demand3.{BodiesOfBytes, Issue, Step, World, run, start, step, sends, offers, delivers}
+use Rattle.causality.specs.Demand3.{sendAt, offerAt, deliverAt, offerIssue, destination}
 use Rattle.world.specs.Reached.{Reached}
 
 -- one step more at the end of a list
@@ -52,12 +53,14 @@ module _ (n cap k : ℕ) (w : World) (r : Reached n cap k w) where
   unfolding step
   reached-send i to out h = subst (Reached n cap (k + 1)) (cond-yes (ltb i n) _ w (lt→ltb _ _ h)) (reached-step (sends i to [] out) (small-bytes [] tt, tt))
 
-  pub reached-offer : (j p : ℕ) (g : Issue) → j < n → getElem? (w .log) p ≡ some g → Reached n cap (k + 1) (offerAt w j (offers j p) (offerCall (w .records j) (g .frame) (w .queues j)))
+  pub reached-offer : (j p : ℕ) (g : Issue) → j < n → getElem? (w .log) p ≡ some g
+      → Reached n cap (k + 1) (offerAt w j (offers j p) (offerCall (w .records j) (g .frame) (w .queues j)))
   unfolding step
   reached-offer j p g h e =
       subst (Reached n cap (k + 1)) (cond-yes (ltb j n) _ w (lt→ltb _ _ h) ∙ ap (offerIssue w j p) e) (reached-step (offers j p) tt)
 
-  pub reached-deliver : (j : ℕ) (out body : List ℕ) → j < n → Reached n cap (k + 1) (deliverAt w j (delivers j out body) (deliverCall (w .records j) (w .queues j) out body))
+  pub reached-deliver : (j : ℕ) (out body : List ℕ) → j < n
+      → Reached n cap (k + 1) (deliverAt w j (delivers j out body) (deliverCall (w .records j) (w .queues j) out body))
   unfolding step
   reached-deliver j out body h = subst (Reached n cap (k + 1)) (cond-yes (ltb j n) _ w (lt→ltb _ _ h)) (reached-step (delivers j out body) tt)
 
@@ -81,7 +84,9 @@ module _ (n cap k : ℕ) (w : World) (r : Reached n cap k w) where
     few = omega (arith, run-length n (messages.start n (λ i. cap)) (map forget (r .steps)), length-map (r .steps) forget, r .few)
 
     m : Matches n v b
-    m = run-matches n cap (r .steps) (r .bytes) (messages.start n (λ i. cap)) (start n cap) (start-good n (λ i. cap) (λ k h. inside)) (omega (arith, r .few)) (start-matches n cap inside)
+    m =
+        run-matches n cap (r .steps) (r .bytes) (messages.start n (λ i. cap)) (start n cap) (start-good n (λ i. cap) (λ k h. inside))
+        (omega (arith, r .few)) (start-matches n cap inside)
 
     issued-facts-run : (p : ℕ) (g : Issue) → getElem? (b .log) p ≡ some g → IssuedFacts (g .frame)
     issued-facts-run p g e =

@@ -47,9 +47,12 @@ module _ (n cap limit k : ℕ) (w : World) (s : Stored) (q l : List ℕ) (h : Ho
   send-stops t = rw t
 
   pub send-17 : (leb n i || exhausted n limit w) ≡ true → SendDone (outcome.Refused 17) s l
-  send-17 t = subst (λ (a : AfterStep). (outcome.Refused 17 ≡ a .outcome) × Holds n cap limit (k + 1) (a .world) s q l) (sym (send-stops t)) (refl, holds-later n cap limit k w s q l h)
+  send-17 t =
+      subst (λ (a : AfterStep). (outcome.Refused 17 ≡ a .outcome) × Holds n cap limit (k + 1) (a .world) s q l) (sym (send-stops t))
+      (refl, holds-later n cap limit k w s q l h)
 
-  module _ (hi : i < n) (left : length (w .log) + n ≤ limit) (r : Record) (er : r ≡ getD (s .nodes) i noRecord) (a : Sent) (out : List ℕ) (e : afterSend a out ≡ sendCall r j [] frameOutput) where
+  module _ (hi : i < n) (left : length (w .log) + n ≤ limit) (r : Record) (er : r ≡ getD (s .nodes) i noRecord) (a : Sent) (out : List ℕ)
+      (e : afterSend a out ≡ sendCall r j [] frameOutput) where
     abbrev c : AfterSend
     c = sendCall (w .records i) j [] frameOutput
 
@@ -62,7 +65,8 @@ module _ (n cap limit k : ℕ) (w : World) (s : Stored) (q l : List ℕ) (h : Ho
 
     pub send-refused : (why : ℕ) → a .answer ≡ sendAnswer.Refused why → SendDone (outcome.Refused why) s l
     send-refused why t =
-        subst (λ (x : AfterStep). (outcome.Refused why ≡ x .outcome) × Holds n cap limit (k + 1) (x .world) s q l) (sym (send-goes ∙ ap (afterSent w i j c) t)) (refl, holds-later n cap limit k w s q l h)
+        subst (λ (x : AfterStep). (outcome.Refused why ≡ x .outcome) × Holds n cap limit (k + 1) (x .world) s q l) (sym (send-goes ∙ ap (afterSent w i j c) t))
+        (refl, holds-later n cap limit k w s q l h)
 
     module _ (bytes extras : ℕ) (t : a .answer ≡ sendAnswer.Sent bytes extras) where
       told : c .result .answer ≡ sendAnswer.Sent bytes extras
@@ -85,14 +89,18 @@ module _ (n cap limit k : ℕ) (w : World) (s : Stored) (q l : List ℕ) (h : Ho
       pub sent-few : extras ≤ 12
       sent-few = facts .few
 
-      pub send-sent : (s′ : Stored) (l′ : List ℕ) → s′ ≡ storedAfter s i (a .node) (1 + extras) (length (take bytes out)) → l′ ≡ write l (s .end) (take bytes out) → SendDone (outcome.Sent extras) s′ l′
+      pub send-sent : (s′ : Stored) (l′ : List ℕ) → s′ ≡ storedAfter s i (a .node) (1 + extras) (length (take bytes out))
+          → l′ ≡ write l (s .end) (take bytes out) → SendDone (outcome.Sent extras) s′ l′
       send-sent s′ l′ es el =
           let f = facts in
-          subst (λ (x : AfterStep). (outcome.Sent extras ≡ x .outcome) × Holds n cap limit (k + 1) (x .world) s′ q l′) (sym (send-goes ∙ ap (afterSent w i j c) t)) (
+          subst (λ (x : AfterStep). (outcome.Sent extras ≡ x .outcome) × Holds n cap limit (k + 1) (x .world) s′ q l′)
+          (sym (send-goes ∙ ap (afterSent w i j c) t)) (
             refl,
-            holds-after n cap limit k w s q l h short i hi (sends i j [] frameOutput) (c .result .node) (w .queues i) (sent (c .result .answer)) (c .out) q (take bytes out) (1 + extras)
+            holds-after n cap limit k w s q l h short i hi (sends i j [] frameOutput) (c .result .node) (w .queues i) (sent (c .result .answer))
+                (c .out) q (take bytes out) (1 + extras)
                 (reached-send n cap k w (h .reached) i j frameOutput hi) refl (h .queues i hi) (λ x hx z. refl)
-                (frames-joined (take (bytesIssued (sent (c .result .answer))) (c .out)) ∙ ap₂ (λ (x : ℕ) (y : List ℕ). take x y) tells (ap (λ (x : AfterSend). x .out) same))
+                (frames-joined (take (bytesIssued (sent (c .result .answer))) (c .out))
+                ∙ ap₂ (λ (x : ℕ) (y : List ℕ). take x y) tells (ap (λ (x : AfterSend). x .out) same))
                 (ap (λ (x : ℕ). length (framesIn (take x (c .out)))) tells ∙ wrote-frames (f .wrote) ∙ f .many)
                 (omega (arith, f .few, h .range .atLeast2)) sent-room s′ l′
                 (es ∙ ap (λ (x : AfterSend). storedAfter s i (x .result .node) (1 + extras) (length (take bytes out))) (sym same)) el,

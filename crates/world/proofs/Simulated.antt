@@ -19,7 +19,8 @@ use Rattle.node.specs.declared.DeliverAnswer.the-variants as deliverAnswer
 use Rattle.causality.specs.Demand3.{Issue, World, destination}
 use Rattle.world.proofs.Reach.{issued-facts, reached-deliver, reached-later, reached-offer, reached-send}
 use Rattle.world.specs.Reached.{Reached}
-use Rattle.world.specs.Steps.{AfterStep, afterDelivered, afterOffered, afterSent, bodyOutput, deliverStep, exhausted, frameOutput, offerStep, offerTo, refuse, sendStep}
+use Rattle.world.specs.Steps.{AfterStep, afterDelivered, afterOffered, afterSent, bodyOutput, deliverStep}
+use Rattle.world.specs.Steps.{exhausted, frameOutput, offerStep, offerTo, refuse, sendStep}
 
 module _ (n cap limit k : ℕ) (w : World) (r : Reached n cap k w) where
   abbrev Next : AfterStep → Type 0

@@ -27,7 +27,8 @@ ready-range : (me n c : ℕ) → T (isReady (setUp me n c .answer)) → inRange 
 unfolding setUp
 ready-range me n c t = go (inRange me n c) t
   where
-    go : (b : Bool) → T (isReady (cond {A = SetUp} b (record { answer = Ready; node = freshRecord me n c }) (record { answer = Refused 1; node = freshRecord 0 0 0 }) .answer)) → b ≡ true
+    go : (b : Bool) → T (isReady (cond {A = SetUp} b
+        (record { answer = Ready; node = freshRecord me n c }) (record { answer = Refused 1; node = freshRecord 0 0 0 }) .answer)) → b ≡ true
     go true t = refl
     go false t = absurd t
 
@@ -37,7 +38,8 @@ unfolding queueAt
 fresh-queue k i h =
     let r : ℕ = k - queueSize * i - queueSize in
     let e : k - queueSize * i ≡ queueSize + r = omega arith in
-    ap (take queueSize) (zeros-drop (queueSize * i) k (omega arith) ∙ ap zeros e ∙ sym (zeros-add queueSize r)) ∙ take-at (zeros queueSize) (zeros r) queueSize (length-zeros queueSize)
+    ap (take queueSize) (zeros-drop (queueSize * i) k (omega arith) ∙ ap zeros e ∙ sym (zeros-add queueSize r))
+    ∙ take-at (zeros queueSize) (zeros r) queueSize (length-zeros queueSize)
 
 -- n is 2 to 4, and n and the cap are in range
 pub record Opens (n c : ℕ) : Type 0 where
@@ -56,7 +58,9 @@ opens n c s =
   where
     go : 2 ≤ n → n ≤ maxSimulated → T (leb n 0) ⊎ T (isReady (setUp 0 n c .answer)) → Opens n c
     go h l (inl z) = absurd (omega (arith, leb→le n 0 z))
-    go h l (inr r) = let k = ranged 0 n c (ready-range 0 n c r) in record { few = l; range = record { atLeast2 = k .atLeast2; atMost12 = k .atMost12; capFrom = k .capFrom; capTo = k .capTo } }
+    go h l (inr r) =
+        let k = ranged 0 n c (ready-range 0 n c r) in
+        record { few = l; range = record { atLeast2 = k .atLeast2; atMost12 = k .atMost12; capFrom = k .capFrom; capTo = k .capTo } }
 
 fresh-record : (n c i : ℕ) → i < maxSimulated → getD (fresh n (c ∷ c ∷ c ∷ c ∷ []) .nodes) i noRecord ≡ setUp i n c .node
 unfolding fresh
@@ -66,7 +70,8 @@ fresh-record n c (suc (suc zero)) h = refl
 fresh-record n c (suc (suc (suc zero))) h = refl
 fresh-record n c (suc (suc (suc (suc i)))) h = absurd (omega arith)
 
-fresh-counts : (n c : ℕ) → (fresh n (c ∷ c ∷ c ∷ c ∷ []) .n ≡ n) × (length (fresh n (c ∷ c ∷ c ∷ c ∷ []) .nodes) ≡ maxSimulated) × (fresh n (c ∷ c ∷ c ∷ c ∷ []) .issued ≡ 0) × (fresh n (c ∷ c ∷ c ∷ c ∷ []) .end ≡ 0)
+fresh-counts : (n c : ℕ) → (fresh n (c ∷ c ∷ c ∷ c ∷ []) .n ≡ n) × (length (fresh n (c ∷ c ∷ c ∷ c ∷ []) .nodes) ≡ maxSimulated)
+    × (fresh n (c ∷ c ∷ c ∷ c ∷ []) .issued ≡ 0) × (fresh n (c ∷ c ∷ c ∷ c ∷ []) .end ≡ 0)
 unfolding fresh
 fresh-counts n c = (refl, refl, refl, refl)
 

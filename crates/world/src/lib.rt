@@ -1,4 +1,5 @@
-//! The world of a simulation: the records of up to four nodes by value, their hold-back queues (document 01: shelves) and the issued frames in lent slices, and the steps on them. Nothing here prints.
+//! The world of a simulation: the records of up to four nodes by value, their hold-back queues (document 01: shelves)
+//! and the issued frames in lent slices, and the steps on them. Nothing here prints.
 pub mod deliver;
 pub mod log;
 pub mod offer;
@@ -19,7 +20,8 @@ pub struct World {
     pub end: usize,
 }
 
-/// What a step led to: a refusal's number; a send and its extra frames; an offer, how many frames are held now and whether this one was deliverable at that moment; that none of the tried held frames is deliverable; or a delivery, its issue counted from 1, how many held frames were tried, and its extra frames.
+/// What a step led to: a refusal's number; a send and its extra frames; an offer, how many frames are held now and whether this one was deliverable at that
+/// moment; that none of the tried held frames is deliverable; or a delivery, its issue counted from 1, how many held frames were tried, and its extra frames.
 pub enum Outcome {
     Refused(u8),
     Sent(usize),

@@ -52,7 +52,8 @@ fn is_named(s: &[u8], to: usize, kind: u8, from: u8, number: u32) -> bool
 /// The issue, counted from 1, of the first of the first `count` frames that goes to node `to` and has this kind, from and number; 0 where none has.
 pub fn find(log: &[u8], count: usize, to: usize, kind: u8, from: u8, number: u32) -> usize
     requires { ⌜ BeginsWith count (now log) ⌝ }
-    ensures { λ r. ⌜ ((f : List (List ℕ)) → Begins f (now (log .entry)) → count ≡ length f → r ≡ issueFrom 1 (record { kind = kind; from = from; number = number }) to f) ⌝ }
+    ensures { λ r. ⌜ ((f : List (List ℕ)) → Begins f (now (log .entry)) → count ≡ length f
+        → r ≡ issueFrom 1 (record { kind = kind; from = from; number = number }) to f) ⌝ }
 {
     let mut at: usize = 0;
     let mut i: usize = 0;

@@ -40,7 +40,8 @@ exceeds-requires c κs =
     let w = c .before .before in
     let d = w .before .before in
     let s = d .before .before in
-    let within = inside-read (s .args .s .now) (d .read .result) (w .loop .k) (c .read2 .result) (s .pre) (d .read .ensures) (search needs) (c .read2 .ensures) in
+    let within = inside-read (s .args .s .now) (d .read .result) (w .loop .k) (c .read2 .result) (s .pre)
+    (d .read .ensures) (search needs) (c .read2 .ensures) in
     (within .row, within .column)
 
 returns : tie.Need-returns Inv-loop μ-loop
@@ -52,7 +53,8 @@ returns c =
     let s = d .before .before in
     let a = s .args in
     let over = sym (t .exceeds .ensures) ∙ c .if1 .taken in
-    let found = some-found (exceeds (a .me) (entry (a .m .now))) (a .s .now) (w .loop .k) (d .read .result .e) (r .read2 .result) (search needs) (r .read2 .ensures) over in
+    let found = some-found (exceeds (a .me) (entry (a .m .now))) (a .s .now) (w .loop .k) (d .read .result .e) (r .read2 .result)
+    (search needs) (r .read2 .ensures) over in
     λ n cap deliv l. sym (claims-entries (a .s .now) (d .read .result) (a .me) (a .m .now) (s .pre) (d .read .ensures) n cap deliv l ∙ w .loop .inv .1 ∙ found)
 
 add-k : tie.Need-add-k Inv-loop μ-loop
@@ -68,8 +70,11 @@ loop-again c =
     let w = r .before .before in
     let d = w .before .before in
     let a = d .before .before .args in
-    let under = sym (t .exceeds .ensures) ∙ c .if1 .left in
-    (search needs, w .loop .inv .1 ∙ some-passed (exceeds (a .me) (entry (a .m .now))) (a .s .now) (w .loop .k) (d .read .result .e) (r .read2 .result) (search needs) (r .read2 .ensures) under)
+    let under = sym (t .exceeds .ensures) ∙ c .if1 .left in (
+      search needs,
+      w .loop .inv .1 ∙ some-passed (exceeds (a .me) (entry (a .m .now))) (a .s .now) (w .loop .k) (d .read .result .e) (r .read2 .result)
+          (search needs) (r .read2 .ensures) under,
+    )
 
 returns-2 : tie.Need-returns-2 Inv-loop μ-loop
 returns-2 c =

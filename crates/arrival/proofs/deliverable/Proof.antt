@@ -15,7 +15,8 @@ use Rattle.arrival.proofs.deliverable.Statement.{statement}
 use Rattle.arrival.proofs.deliverable.Tie as tie
 
 abbrev Inv-loop : tie.InvT-loop
-Inv-loop s me deliv e k₀ k = (k ≤ e) × (everyEntry (ready me (vector deliv)) (entriesFrom s 0 e) ≡ everyEntry (ready me (vector deliv)) (entriesFrom s k (e - k)))
+Inv-loop s me deliv e k₀ k =
+    (k ≤ e) × (everyEntry (ready me (vector deliv)) (entriesFrom s 0 e) ≡ everyEntry (ready me (vector deliv)) (entriesFrom s k (e - k)))
 
 abbrev μ-loop : tie.MeasureT-loop
 μ-loop s me deliv e k₀ k = e - k
@@ -41,7 +42,8 @@ entry-ready-requires c κs =
     let w = c .before .before in
     let d = w .before .before in
     let s = d .before .before in
-    let within = inside-read (s .args .s .now) (d .read .result) (w .loop .k) (c .read2 .result) (s .pre) (d .read .ensures) (search needs) (c .read2 .ensures) in
+    let within = inside-read (s .args .s .now) (d .read .result) (w .loop .k) (c .read2 .result) (s .pre)
+    (d .read .ensures) (search needs) (c .read2 .ensures) in
     within .row
 
 returns : tie.Need-returns Inv-loop μ-loop
@@ -53,7 +55,8 @@ returns c =
     let s = d .before .before in
     let a = s .args in
     let waits = denied _ _ (t .entry-ready .ensures) (c .if1 .taken) in
-    let fails = every-fails (ready (a .me) (vector (a .deliv .now))) (a .s .now) (w .loop .k) (d .read .result .e) (r .read2 .result) (search needs) (r .read2 .ensures) waits in
+    let fails = every-fails (ready (a .me) (vector (a .deliv .now))) (a .s .now) (w .loop .k) (d .read .result .e) (r .read2 .result)
+    (search needs) (r .read2 .ensures) waits in
     λ n cap m l. sym (deliverable-walk (a .s .now) (d .read .result) (a .me) (a .deliv .now) (s .pre) (d .read .ensures) n cap m l ∙ w .loop .inv .1 ∙ fails)
 
 add-k : tie.Need-add-k Inv-loop μ-loop
@@ -69,8 +72,11 @@ loop-again c =
     let w = r .before .before in
     let d = w .before .before in
     let a = d .before .before .args in
-    let goes = passed _ _ (t .entry-ready .ensures) (c .if1 .left) in
-    (search needs, w .loop .inv .1 ∙ every-passed (ready (a .me) (vector (a .deliv .now))) (a .s .now) (w .loop .k) (d .read .result .e) (r .read2 .result) (search needs) (r .read2 .ensures) goes)
+    let goes = passed _ _ (t .entry-ready .ensures) (c .if1 .left) in (
+      search needs,
+      w .loop .inv .1 ∙ every-passed (ready (a .me) (vector (a .deliv .now))) (a .s .now) (w .loop .k) (d .read .result .e) (r .read2 .result)
+          (search needs) (r .read2 .ensures) goes,
+    )
 
 returns-2 : tie.Need-returns-2 Inv-loop μ-loop
 returns-2 c =

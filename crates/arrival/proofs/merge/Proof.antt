@@ -43,7 +43,8 @@ merge-entry-requires c κs =
     let w = r .before .before in
     let d = w .before .before in
     let s = d .before .before in
-    let within = inside-read (s .args .s .now) (d .read .result) (w .loop .k) (r .read2 .result) (s .pre .1) (d .read .ensures) (search needs) (r .read2 .ensures) in
+    let within = inside-read (s .args .s .now) (d .read .result) (w .loop .k) (r .read2 .result) (s .pre .1)
+    (d .read .ensures) (search needs) (r .read2 .ensures) in
     (w .loop .inv .cells, within .row, within .column)
 
 add-k : tie.Need-add-k Inv-loop μ-loop
@@ -58,7 +59,8 @@ loop-again c =
     let w = r .before .before in
     let d = w .before .before in
     let a = d .before .before .args in
-    merging-turn (a .s .now) (a .j) (d .read .result .e) _ _ _ (w .loop .k) (r .read2 .result) (w .loop .inv) (search needs) (r .read2 .ensures) (c .merge-entry .ensures)
+    merging-turn (a .s .now) (a .j) (d .read .result .e) _ _ _ (w .loop .k) (r .read2 .result) (w .loop .inv) (search needs)
+    (r .read2 .ensures) (c .merge-entry .ensures)
 
 returns : tie.Need-returns Inv-loop μ-loop
 returns c =

@@ -41,7 +41,8 @@ add-result c =
     let w = r .before .before in
     let d = w .before .before in
     let s = d .before .before in
-    let within = inside-read (s .args .s .now) (d .read .result) (w .loop .k) (r .read2 .result) (s .pre) (d .read .ensures) (search needs) (r .read2 .ensures) in
+    let within = inside-read (s .args .s .now) (d .read .result) (w .loop .k) (r .read2 .result) (s .pre)
+    (d .read .ensures) (search needs) (r .read2 .ensures) in
     record { fits = omega (arith, within .most) }
 
 returns : tie.Need-returns Inv-loop μ-loop
@@ -69,8 +70,11 @@ loop-again c =
     let w = r .before .before in
     let d = w .before .before in
     let h = d .read .result in
-    let other = sym (t .stands-at .ensures) ∙ c .if1 .left in
-    (search needs, w .loop .inv .1 ∙ look-passed (d .before .before .args .s .now) (w .loop .k) (h .e) (h .from) (h .to) (r .read2 .result) (search needs) (r .read2 .ensures) other)
+    let other = sym (t .stands-at .ensures) ∙ c .if1 .left in (
+      search needs,
+      w .loop .inv .1 ∙ look-passed (d .before .before .args .s .now) (w .loop .k) (h .e) (h .from) (h .to) (r .read2 .result)
+          (search needs) (r .read2 .ensures) other,
+    )
 
 returns-2 : tie.Need-returns-2 Inv-loop μ-loop
 returns-2 c =

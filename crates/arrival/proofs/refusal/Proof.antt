@@ -28,7 +28,8 @@ returns-2 c =
     let d = i .before .before in
     let a = d .before .before .args in
     let to = decode-to (a .s .now) (d .read .result) (d .read .ensures) ∙ i .if1 .left in
-    λ n cap l. sym (arrival-13 (nodeWith (a .me) n cap (a .m .now) (a .deliv .now) l) (decode (a .s .now)) to (sym (t .claims-too-much .ensures n cap (a .deliv .now) l) ∙ c .if2 .taken))
+    λ n cap l. sym (arrival-13 (nodeWith (a .me) n cap (a .m .now) (a .deliv .now) l) (decode (a .s .now)) to
+    (sym (t .claims-too-much .ensures n cap (a .deliv .now) l) ∙ c .if2 .taken))
 
 number-requires : tie.Need-number-requires
 number-requires c κs = search needs
@@ -55,7 +56,8 @@ returns-3 c =
     let a = d .before .before .args in
     let to = decode-to (a .s .now) (d .read .result) (d .read .ensures) ∙ i .if1 .left in
     let from = decode-from (a .s .now) (d .read .result) (d .read .ensures) in
-    λ n cap l. sym (arrival-14 (nodeWith (a .me) n cap (a .m .now) (a .deliv .now) l) (decode (a .s .now)) to (sym (t .claims-too-much .ensures n cap (a .deliv .now) l) ∙ j .if2 .left) (rw (← u .number .ensures, from) (c .if3 .taken)))
+    λ n cap l. sym (arrival-14 (nodeWith (a .me) n cap (a .m .now) (a .deliv .now) l) (decode (a .s .now)) to
+    (sym (t .claims-too-much .ensures n cap (a .deliv .now) l) ∙ j .if2 .left) (rw (← u .number .ensures, from) (c .if3 .taken)))
 
 returns-4 : tie.Need-returns-4
 returns-4 c =
@@ -67,7 +69,8 @@ returns-4 c =
     let a = d .before .before .args in
     let to = decode-to (a .s .now) (d .read .result) (d .read .ensures) ∙ i .if1 .left in
     let from = decode-from (a .s .now) (d .read .result) (d .read .ensures) in
-    λ n cap l. sym (arrival-none (nodeWith (a .me) n cap (a .m .now) (a .deliv .now) l) (decode (a .s .now)) to (sym (t .claims-too-much .ensures n cap (a .deliv .now) l) ∙ j .if2 .left) (rw (← u .number .ensures, from) (c .if3 .left)))
+    λ n cap l. sym (arrival-none (nodeWith (a .me) n cap (a .m .now) (a .deliv .now) l) (decode (a .s .now)) to
+    (sym (t .claims-too-much .ensures n cap (a .deliv .now) l) ∙ j .if2 .left) (rw (← u .number .ensures, from) (c .if3 .left)))
 
 pub refusal-spec : {M : Type 1} → statement M
 refusal-spec =

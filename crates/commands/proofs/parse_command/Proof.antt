@@ -31,7 +31,8 @@ returns-2 : tie.Need-returns-2
 returns-2 c =
     let f = c .before .before in
     let l = f .before .before in
-    c .with-one .ensures ∙ rw (l .letter .ensures, f .field .ensures) (sym (command-one _ _ _ (l .before .before .find .ensures .0) (search needs) (f .before .find2 .ensures .0) (c .before .if2 .taken)))
+    c .with-one .ensures ∙ rw (l .letter .ensures, f .field .ensures)
+    (sym (command-one _ _ _ (l .before .before .find .ensures .0) (search needs) (f .before .find2 .ensures .0) (c .before .if2 .taken)))
 
 add-j : tie.Need-add-j
 add-j c = search needs
@@ -42,7 +43,8 @@ find-requires-3 c κs = search needs
 returns-3 : tie.Need-returns-3
 returns-3 c =
     let g = c .before .before .before .before in
-    sym (command-more _ _ _ _ (g .before .before .before .find .ensures .0) (search needs) (g .find2 .ensures .0) (search needs) (c .before .find3 .ensures .0) (c .if3 .taken))
+    sym (command-more _ _ _ _ (g .before .before .before .find .ensures .0) (search needs) (g .find2 .ensures .0) (search needs)
+    (c .before .find3 .ensures .0) (c .if3 .taken))
 
 field-requires-2 : tie.Need-field-requires-2
 field-requires-2 c κs = search needs
@@ -57,7 +59,8 @@ returns-4 c =
     let l = f .before .before in
     c .with-two .ensures
     ∙ rw (l .letter .ensures, f .field .ensures, c .before .field2 .ensures)
-    (sym (command-two _ _ _ _ (l .before .before .find .ensures .0) (search needs) (f .before .find2 .ensures .0) (search needs) (t .find3 .ensures .0) (omega arith)))
+    (sym (command-two _ _ _ _ (l .before .before .find .ensures .0) (search needs) (f .before .find2 .ensures .0)
+    (search needs) (t .find3 .ensures .0) (omega arith)))
 
 pub parse-command-spec : {M : Type 1} → statement M
 parse-command-spec =

@@ -34,7 +34,11 @@ sizes-requires c κs = search needs
 returns-3 : tie.Need-returns-3
 returns-3 c =
     let f = c .before .before .before .before in
-    c .sizes .ensures ∙ rw (c .before .before .field .ensures, c .before .field2 .ensures, sub-zero) (sym (firstLine-two _ _ _ (f .before .before .find .ensures .0) (search needs) (f .find2 .ensures .0) (omega arith)))
+    c .sizes .ensures ∙ rw (
+      c .before .before .field .ensures,
+      c .before .field2 .ensures,
+      sub-zero,
+    ) (sym (firstLine-two _ _ _ (f .before .before .find .ensures .0) (search needs) (f .find2 .ensures .0) (omega arith)))
 
 pub parse-first-line-spec : {M : Type 1} → statement M
 parse-first-line-spec =

@@ -14,14 +14,18 @@ returns c = let a = c .before .before .before .before .args in rw (c .before .be
 
 returns-2 : tie.Need-returns-2
 unfolding withOne
-returns-2 c = let a = c .before .before .before .before .before .args in rw (c .before .before .before .i .given .1, ne-eqb (a .l) 65 (c .before .if1 .left), eq-eqb (a .l) 68 (c .if2 .taken))
+returns-2 c =
+    let a = c .before .before .before .before .before .args in
+    rw (c .before .before .before .i .given .1, ne-eqb (a .l) 65 (c .before .if1 .left), eq-eqb (a .l) 68 (c .if2 .taken))
 
 enum-told : tie.Need-enum-told
 enum-told c = search needs
 
 returns-3 : tie.Need-returns-3
 unfolding withOne
-returns-3 c = let a = c .before .before .before .before .before .args in rw (c .before .before .before .i .given .1, ne-eqb (a .l) 65 (c .before .if1 .left), ne-eqb (a .l) 68 (c .if2 .left))
+returns-3 c =
+    let a = c .before .before .before .before .before .args in
+    rw (c .before .before .before .i .given .1, ne-eqb (a .l) 65 (c .before .if1 .left), ne-eqb (a .l) 68 (c .if2 .left))
 
 returns-4 : tie.Need-returns-4
 unfolding withOne

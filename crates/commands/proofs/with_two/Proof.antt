@@ -13,7 +13,9 @@ enum-known-j c = search needs
 
 returns : tie.Need-returns
 unfolding withTwo
-returns c = let w = c .before .before .before in rw (w .before .before .i .given .1, c .before .before .j .given .1, eq-eqb (w .before .before .before .before .args .l) 83 (c .if1 .taken))
+returns c =
+    let w = c .before .before .before in
+    rw (w .before .before .i .given .1, c .before .before .j .given .1, eq-eqb (w .before .before .before .before .args .l) 83 (c .if1 .taken))
 
 enum-told : tie.Need-enum-told
 enum-told c = search needs
@@ -23,7 +25,9 @@ enum-told-2 c = search needs
 
 returns-2 : tie.Need-returns-2
 unfolding withTwo
-returns-2 c = let w = c .before .before .before in rw (w .before .before .i .given .1, c .before .before .j .given .1, ne-eqb (w .before .before .before .before .args .l) 83 (c .if1 .left))
+returns-2 c =
+    let w = c .before .before .before in
+    rw (w .before .before .i .given .1, c .before .before .j .given .1, ne-eqb (w .before .before .before .before .args .l) 83 (c .if1 .left))
 
 returns-3 : tie.Need-returns-3
 unfolding withTwo

@@ -22,17 +22,21 @@ abbrev μ-loop : tie.MeasureT-loop
 μ-loop q held s h number i₀ i = held - i
 
 -- the part that is lent is the frame in slot i, and it was compared with s
-part : (c : tie.After-frame-end Inv-loop μ-loop) → HeldPart (c .before .before .before .before .before .before .before .args .q .now) (c .before .before .loop .i) (c .frame-end .result)
+part : (c : tie.After-frame-end Inv-loop μ-loop)
+    → HeldPart (c .before .before .before .before .before .before .before .args .q .now) (c .before .before .loop .i) (c .frame-end .result)
 part c =
     let a = c .before .before .before .before .before .before .before in
     held-part (a .args .held) (a .args .q .now) (c .before .before .loop .i) (c .frame-end .result) (a .pre .0) (search needs) (c .frame-end .ensures)
 
 told : (c : tie.After-same-origin Inv-loop μ-loop)
-    → c .same-origin .result ≡ sameOrigin (decode (frameAt (c .before .before .before .before .before .before .before .before .before .args .q .now) (c .before .before .before .before .loop .i))) (decode (c .before .before .before .before .before .before .before .before .before .args .s .now))
+    → c .same-origin .result ≡ sameOrigin
+    (decode (frameAt (c .before .before .before .before .before .before .before .before .before .args .q .now) (c .before .before .before .before .loop .i)))
+    (decode (c .before .before .before .before .before .before .before .before .before .args .s .now))
 told c =
     let r = c .before .before .before .before .before in
     let s = r .before .before .before .before .args .s .now in
-    c .same-origin .ensures (decode s) (sym (decode-from s _ (r .before .read .ensures))) (r .number .ensures) ∙ ap (λ (t : List ℕ). sameOrigin (decode t) (decode s)) (part (c .before .before) .same)
+    c .same-origin .ensures (decode s) (sym (decode-from s _ (r .before .read .ensures))) (r .number .ensures)
+    ∙ ap (λ (t : List ℕ). sameOrigin (decode t) (decode s)) (part (c .before .before) .same)
 
 read-requires : tie.Need-read-requires Inv-loop μ-loop
 read-requires c κs = header-room _ (c .before .before .pre .1)
@@ -65,7 +69,8 @@ returns : tie.Need-returns Inv-loop μ-loop
 returns c =
     let w = c .before .before .before .before .before in
     let a = w .before .before .before .before .before .args in
-    sym (sym (alike-start (a .held) (a .q .now) (decode (a .s .now))) ∙ w .loop .inv .1 ∙ alike-hit (a .held) (a .q .now) (decode (a .s .now)) (w .loop .i) (search needs) (sym (told (c .before)) ∙ c .if1 .taken))
+    sym (sym (alike-start (a .held) (a .q .now) (decode (a .s .now))) ∙ w .loop .inv .1
+    ∙ alike-hit (a .held) (a .q .now) (decode (a .s .now)) (w .loop .i) (search needs) (sym (told (c .before)) ∙ c .if1 .taken))
 
 add-i : tie.Need-add-i Inv-loop μ-loop
 add-i c = search needs
@@ -83,7 +88,8 @@ returns-2 : tie.Need-returns-2 Inv-loop μ-loop
 returns-2 c =
     let w = c .before in
     let a = w .before .before .before .before .before .args in
-    sym (sym (alike-start (a .held) (a .q .now) (decode (a .s .now))) ∙ w .loop .inv .1 ∙ alike-end (a .held) (a .q .now) (decode (a .s .now)) (w .loop .i) (c .loop-test .left))
+    sym (sym (alike-start (a .held) (a .q .now) (decode (a .s .now))) ∙ w .loop .inv .1
+    ∙ alike-end (a .held) (a .q .now) (decode (a .s .now)) (w .loop .i) (c .loop-test .left))
 
 pub alike-spec : {M : Type 1} → statement M
 alike-spec =

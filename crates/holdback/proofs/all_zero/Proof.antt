@@ -41,8 +41,11 @@ loop-less c = search needs
 loop-again : tie.Need-loop-again Inv-loop μ-loop
 loop-again c =
     let b = c .before .before .before in
-    let i = b .loop .inv in
-    (search needs, i .1, i .2 ∙ halves-rest (b .before .args .s .now) _ _ (b .loop .acc) (b .loop .at) (omega (arith, i .1)) (search needs) (omega (arith, i .1)))
+    let i = b .loop .inv in (
+      search needs,
+      i .1,
+      i .2 ∙ halves-rest (b .before .args .s .now) _ _ (b .loop .acc) (b .loop .at) (omega (arith, i .1)) (search needs) (omega (arith, i .1)),
+    )
 
 returns : tie.Need-returns Inv-loop μ-loop
 returns c =

@@ -24,7 +24,9 @@ shared-slice-read-if1 : tie.Need-shared-slice-read-if1 Inv-loop μ-loop
 shared-slice-read-if1 c = search needs
 
 returns : tie.Need-returns Inv-loop μ-loop
-returns c = let b = c .before .before .before in sym (b .loop .inv .1 ∙ among-hit (b .before .args .keys .now) (b .loop .j) (search needs) (b .before .args .k) (c .if1 .taken))
+returns c =
+    let b = c .before .before .before in
+    sym (b .loop .inv .1 ∙ among-hit (b .before .args .keys .now) (b .loop .j) (search needs) (b .before .args .k) (c .if1 .taken))
 
 add-j : tie.Need-add-j Inv-loop μ-loop
 add-j c = search needs
@@ -33,7 +35,9 @@ loop-less : tie.Need-loop-less Inv-loop μ-loop
 loop-less c = search needs
 
 loop-again : tie.Need-loop-again Inv-loop μ-loop
-loop-again c = let b = c .before .before .before in (search needs, b .loop .inv .1 ∙ among-next (b .before .args .keys .now) (b .loop .j) (search needs) (b .before .args .k) (c .if1 .left))
+loop-again c =
+    let b = c .before .before .before in
+    (search needs, b .loop .inv .1 ∙ among-next (b .before .args .keys .now) (b .loop .j) (search needs) (b .before .args .k) (c .if1 .left))
 
 returns-2 : tie.Need-returns-2 Inv-loop μ-loop
 returns-2 c = let b = c .before in sym (b .loop .inv .1 ∙ among-end (b .before .args .keys .now) (b .loop .j) (b .before .args .k) (c .loop-test .left))

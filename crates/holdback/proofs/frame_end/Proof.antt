@@ -34,7 +34,9 @@ own-length-requires : tie.Need-own-length-requires
 own-length-requires c κs = search needs
 
 add-result : tie.Need-add-result
-add-result c = let a = c .before .before .before .before in omega (arith, c .own-length .ensures, own-most (c .before .read .result) (search needs) (search needs), a .pre)
+add-result c =
+    let a = c .before .before .before .before in
+    omega (arith, c .own-length .ensures, own-most (c .before .read .result) (search needs) (search needs), a .pre)
 
 returns : tie.Need-returns
 returns c =

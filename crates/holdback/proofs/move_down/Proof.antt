@@ -13,7 +13,9 @@ use Rattle.holdback.proofs.move_down.Statement.{statement}
 use Rattle.holdback.proofs.move_down.Tie as tie
 
 abbrev Inv-loop : tie.InvT-loop
-Inv-loop q₀ at j₀ q j = (j ≤ maxFrame) × (length q ≡ length q₀) × (drop (at + maxFrame) q ≡ drop (at + maxFrame) q₀) × (put q (at + j) (drop j (source q₀ at)) ≡ put q₀ at (source q₀ at))
+Inv-loop q₀ at j₀ q j =
+    (j ≤ maxFrame) × (length q ≡ length q₀) × (drop (at + maxFrame) q ≡ drop (at + maxFrame) q₀)
+    × (put q (at + j) (drop j (source q₀ at)) ≡ put q₀ at (source q₀ at))
 
 abbrev μ-loop : tie.MeasureT-loop
 μ-loop q₀ at j₀ q j = maxFrame - j

@@ -18,8 +18,12 @@ abbrev μ-loop : tie.MeasureT-loop
 
 loop-holds : tie.Need-loop-holds Inv-loop μ-loop
 loop-holds c =
-    let a = c .before in
-    (search needs, search needs, search needs, moving-start (heldFrames (a .args .held) (a .args .q .now)) (a .args .k) (a .args .q .now) (a .pre .3) (held-fit (a .args .held) (a .args .q .now)))
+    let a = c .before in (
+      search needs,
+      search needs,
+      search needs,
+      moving-start (heldFrames (a .args .held) (a .args .q .now)) (a .args .k) (a .args .q .now) (a .pre .3) (held-fit (a .args .held) (a .args .q .now)),
+    )
 
 add-loop : tie.Need-add-loop Inv-loop μ-loop
 add-loop c = search needs
@@ -45,7 +49,8 @@ loop-again c =
       search needs,
       search needs,
       search needs,
-      moving-turn (heldFrames (a .args .held) (a .args .q .now)) (a .args .k) (b .loop .i) (b .loop .q) _ (b .loop .inv .3) (omega arith) (omega arith) (t .move-down .ensures),
+      moving-turn (heldFrames (a .args .held) (a .args .q .now)) (a .args .k) (b .loop .i) (b .loop .q) _ (b .loop .inv .3)
+          (omega arith) (omega arith) (t .move-down .ensures),
     )
 
 mul-clear : tie.Need-mul-clear Inv-loop μ-loop
@@ -63,7 +68,8 @@ returns c =
     let b = t .before .before .before in
     let a = b .before .before in
     let l = length-held (a .args .held) (a .args .q .now) in
-    moving-end (heldFrames (a .args .held) (a .args .q .now)) (a .args .k) (b .loop .i) (b .loop .q) _ (b .loop .inv .3) (omega arith) (omega arith) (t .clear .ensures)
+    moving-end (heldFrames (a .args .held) (a .args .q .now)) (a .args .k) (b .loop .i) (b .loop .q) _ (b .loop .inv .3)
+    (omega arith) (omega arith) (t .clear .ensures)
 
 pub remove-spec : {M : Type 1} → statement M
 remove-spec =

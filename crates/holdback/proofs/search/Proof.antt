@@ -29,17 +29,22 @@ abbrev μ-slots : tie.MeasureT-slots
 μ-slots q held me deliv next₀ next = held - next
 
 -- the part that is lent is the frame in slot at, its header is read, and entry k
-part : (c : tie.After-frame-end Inv-loop μ-loop Inv-slots μ-slots) → HeldPart (c .before .before .before .before .args .q .now) (c .before .before .slots .next) (c .frame-end .result)
+part : (c : tie.After-frame-end Inv-loop μ-loop Inv-slots μ-slots)
+    → HeldPart (c .before .before .before .before .args .q .now) (c .before .before .slots .next) (c .frame-end .result)
 part c =
     let a = c .before .before .before .before in
     held-part (a .args .held) (a .args .q .now) (c .before .before .slots .next) (c .frame-end .result) (a .pre) (search needs) (c .frame-end .ensures)
 
-heading : (c : tie.After-read Inv-loop μ-loop Inv-slots μ-slots) → c .read .result ≡ header (frameAt (c .before .before .before .before .before .before .args .q .now) (c .before .before .before .before .slots .next))
+heading : (c : tie.After-read Inv-loop μ-loop Inv-slots μ-slots)
+    → c .read .result ≡ header (frameAt (c .before .before .before .before .before .before .args .q .now) (c .before .before .before .before .slots .next))
 heading c = c .read .ensures ∙ ap header (part (c .before .before) .same)
 
 entered : (c : tie.After-read2 Inv-loop μ-loop Inv-slots μ-slots)
-    → c .read2 .result ≡ entryAt (frameAt (c .before .before .before .before .before .before .before .before .before .before .before .args .q .now) (c .before .before .before .before .before .before .before .before .before .slots .next)) (c .before .before .before .loop .k)
-entered c = c .read2 .ensures ∙ ap (λ (s : List ℕ). entryAt s (c .before .before .before .loop .k)) (part (c .before .before .before .before .before .before .before) .same)
+    → c .read2 .result
+    ≡ entryAt (frameAt (c .before .before .before .before .before .before .before .before .before .before .before .args .q .now)
+    (c .before .before .before .before .before .before .before .before .before .slots .next)) (c .before .before .before .loop .k)
+entered c = c .read2 .ensures
+    ∙ ap (λ (s : List ℕ). entryAt s (c .before .before .before .loop .k)) (part (c .before .before .before .before .before .before .before) .same)
 
 slots-holds : tie.Need-slots-holds Inv-loop μ-loop Inv-slots μ-slots
 slots-holds c = let a = c .before .args in (search needs, try-start (a .me) (a .deliv .now) (a .held) (a .q .now))
@@ -102,7 +107,8 @@ slots-again c =
     let t = r .before .before .before .before in
     let a = t .before .before .args in (
       search needs,
-      try-next (a .me) (a .deliv .now) (a .held) (a .q .now) (t .slots .next) (r .read .result) (t .slots .inv .1) (search needs) (part (r .before .before) .checked) (heading r)
+      try-next (a .me) (a .deliv .now) (a .held) (a .q .now) (t .slots .next) (r .read .result) (t .slots .inv .1) (search needs)
+          (part (r .before .before) .checked) (heading r)
           (w .loop .inv .1 ∙ every-fails _ _ _ _ (b .read2 .result) (search needs) (entered b) (denied _ _ (c .before .entry-ready .ensures) (c .if1 .taken))),
     )
 
@@ -115,8 +121,10 @@ loop-less c = search needs
 loop-again : tie.Need-loop-again Inv-loop μ-loop Inv-slots μ-slots
 loop-again c =
     let b = c .before .before in
-    let w = b .before .before .before in
-    (search needs, w .loop .inv .1 ∙ every-passed _ _ _ _ (b .read2 .result) (search needs) (entered b) (passed _ _ (c .before .entry-ready .ensures) (c .if1 .left)))
+    let w = b .before .before .before in (
+      search needs,
+      w .loop .inv .1 ∙ every-passed _ _ _ _ (b .read2 .result) (search needs) (entered b) (passed _ _ (c .before .entry-ready .ensures) (c .if1 .left)),
+    )
 
 add-result : tie.Need-add-result Inv-loop μ-loop Inv-slots μ-slots
 add-result c = search needs
@@ -127,7 +135,8 @@ returns c =
     let r = w .before .before in
     let t = r .before .before .before .before in
     let a = t .before .before .args in
-    try-hit (a .me) (a .deliv .now) (a .held) (a .q .now) (t .slots .next) (r .read .result) (t .slots .inv .1) (search needs) (part (r .before .before) .checked) (heading r) (w .loop .inv .1 ∙ every-end _ _ _ _ (c .loop-test .left))
+    try-hit (a .me) (a .deliv .now) (a .held) (a .q .now) (t .slots .next) (r .read .result) (t .slots .inv .1) (search needs)
+    (part (r .before .before) .checked) (heading r) (w .loop .inv .1 ∙ every-end _ _ _ _ (c .loop-test .left))
 
 returns-2 : tie.Need-returns-2 Inv-loop μ-loop Inv-slots μ-slots
 returns-2 c =

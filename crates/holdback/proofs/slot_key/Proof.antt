@@ -42,7 +42,8 @@ fits c =
     sym (length-take-le (c .before .own-length .result) (slot a) h)
 
 -- 8 to 11 are tested on the frame
-told : (c : tie.After-refusal) → c .refusal .result ≡ frameRefusal (node (c .before .before .before .before .before .before) .n) (node (c .before .before .before .before .before .before) .cap) (frameIn (slot (c .before .before .before .before .before .before)))
+told : (c : tie.After-refusal) → c .refusal .result ≡ frameRefusal (node (c .before .before .before .before .before .before) .n)
+    (node (c .before .before .before .before .before .before) .cap) (frameIn (slot (c .before .before .before .before .before .before)))
 told c =
     let o = c .before .before .before in
     let a = o .before .before .before in
@@ -62,13 +63,15 @@ checked : (c : tie.Else2) → CheckedFrame (take (c .before .before .before .bef
 checked c = rw (part c) (record { n = node (start c) .n; cap = node (start c) .cap; few = start c .pre .1; passes = sound c })
 
 -- 12 to 14, and the zeros behind the frame
-arrived : (c : tie.After-refusal2) → c .refusal2 .result ≡ arrivalRefusal (node (start (c .before .before))) (decode (frameIn (slot (start (c .before .before)))))
+arrived : (c : tie.After-refusal2)
+    → c .refusal2 .result ≡ arrivalRefusal (node (start (c .before .before))) (decode (frameIn (slot (start (c .before .before)))))
 arrived c =
     let e = c .before .before in
     let d = node (start e) in
     c .refusal2 .ensures (d .n) (d .cap) [] ∙ ap (λ (s : List ℕ). arrivalRefusal d (decode s)) (part e)
 
-behind : (c : tie.After-all-zero) → c .all-zero .result ≡ allZero (drop (ownLength (header (slot (start (c .before .before .before .before .before))))) (slot (start (c .before .before .before .before .before))))
+behind : (c : tie.After-all-zero) → c .all-zero .result
+    ≡ allZero (drop (ownLength (header (slot (start (c .before .before .before .before .before))))) (slot (start (c .before .before .before .before .before))))
 behind c =
     let o = c .before .before .before .before .before .before .before .before .before in
     c .all-zero .ensures ∙ ap allZero (slot-rest (slot (o .before .before .before)) (o .own-length .result) (own o))
@@ -124,7 +127,8 @@ returns-4 c =
     let t = c .before .before .before in
     let e = t .before .before .before in
     let a = start e in
-    sym (key-padding (node a) (slot a) (a .pre .0) (short e) (sound e) (sym (arrived (t .before)) ∙ t .if3 .left) (denied _ _ (behind (c .before)) (c .if4 .taken)))
+    sym (key-padding (node a) (slot a) (a .pre .0) (short e) (sound e) (sym (arrived (t .before)) ∙ t .if3 .left)
+    (denied _ _ (behind (c .before)) (c .if4 .taken)))
 
 slice-aggregate-number : tie.Need-slice-aggregate-number
 slice-aggregate-number c = fits (c .before .before .before .before .before .before .before .before .before .before)
@@ -152,7 +156,8 @@ returns-5 c =
     let a = start e in
     let n = c .before .number .ensures ∙ ap (λ (s : List ℕ). number (decode s)) (part e) in
     key-parts (slot a) _ (c .before .number .result) (a .pre .0) (e .before .before .before .before .before .read .ensures) n
-    ∙ sym (key-right (node a) (slot a) (a .pre .0) (short e) (sound e) (sym (arrived (t .before)) ∙ t .if3 .left) (passed _ _ (behind (z .before)) (z .if4 .left)))
+    ∙ sym (key-right (node a) (slot a) (a .pre .0) (short e) (sound e) (sym (arrived (t .before)) ∙ t .if3 .left)
+    (passed _ _ (behind (z .before)) (z .if4 .left)))
 
 pub slot-key-spec : {M : Type 1} → statement M
 slot-key-spec =

@@ -30,7 +30,10 @@ among-requires : tie.Need-among-requires Inv-loop μ-loop
 among-requires c κs = search needs
 
 returns : tie.Need-returns Inv-loop μ-loop
-returns c = let b = c .before .before .before .before in let l = b .before .before .args .keys .now in sym (b .loop .inv .1 ∙ equal-hit l (b .loop .i) (search needs) (sym (c .before .among .ensures) ∙ c .if1 .taken))
+returns c =
+    let b = c .before .before .before .before in
+    let l = b .before .before .args .keys .now in
+    sym (b .loop .inv .1 ∙ equal-hit l (b .loop .i) (search needs) (sym (c .before .among .ensures) ∙ c .if1 .taken))
 
 add-i : tie.Need-add-i Inv-loop μ-loop
 add-i c = search needs
@@ -39,7 +42,10 @@ loop-less : tie.Need-loop-less Inv-loop μ-loop
 loop-less c = search needs
 
 loop-again : tie.Need-loop-again Inv-loop μ-loop
-loop-again c = let b = c .before .before .before .before in let l = b .before .before .args .keys .now in (search needs, b .loop .inv .1 ∙ equal-next l (b .loop .i) (search needs) (sym (c .before .among .ensures) ∙ c .if1 .left))
+loop-again c =
+    let b = c .before .before .before .before in
+    let l = b .before .before .args .keys .now in
+    (search needs, b .loop .inv .1 ∙ equal-next l (b .loop .i) (search needs) (sym (c .before .among .ensures) ∙ c .if1 .left))
 
 returns-2 : tie.Need-returns-2 Inv-loop μ-loop
 returns-2 c = let b = c .before in sym (b .loop .inv .1 ∙ equal-end (b .before .before .args .keys .now) (b .loop .i) (c .loop-test .left))

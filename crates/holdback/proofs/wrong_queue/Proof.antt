@@ -28,12 +28,14 @@ abbrev node : tie.Start Inv-loop μ-loop → Node
 node a = nodeWith (a .args .me) (a .args .n) (a .args .cap) (a .args .m .now) (a .args .deliv .now) []
 
 -- the key of slot i, and the zero test of the rest
-told : (c : tie.After-slot-key Inv-loop μ-loop) → c .slot-key .result ≡ slotKey (node (c .before .before .before .before .before)) (slotAt (c .before .before .before .before .before .args .q .now) (c .before .before .before .loop .i))
+told : (c : tie.After-slot-key Inv-loop μ-loop) → c .slot-key .result ≡ slotKey (node (c .before .before .before .before .before))
+    (slotAt (c .before .before .before .before .before .args .q .now) (c .before .before .before .loop .i))
 told c =
     let a = c .before .before .before .before .before in
     c .slot-key .ensures ∙ ap (slotKey (node a)) (slot-lent (a .args .q .now) (c .before .before .before .loop .i))
 
-behind : (c : tie.After-all-zero Inv-loop μ-loop) → c .all-zero .result ≡ allZero (drop (maxFrame * c .before .before .before .before .before .args .held) (c .before .before .before .before .before .args .q .now))
+behind : (c : tie.After-all-zero Inv-loop μ-loop) → c .all-zero .result
+    ≡ allZero (drop (maxFrame * c .before .before .before .before .before .args .held) (c .before .before .before .before .before .args .q .now))
 behind c =
     let a = c .before .before .before .before .before in
     c .all-zero .ensures ∙ ap allZero (rest-lent (a .args .q .now) (maxFrame * a .args .held))
@@ -65,7 +67,8 @@ returns : tie.Need-returns Inv-loop μ-loop
 returns c =
     let w = c .before .before .before .before in
     let a = w .before .before in
-    sym (filling-wrong (node a) (a .args .held) (a .args .q .now) (a .pre .1) (a .pre .0) (w .loop .keys) (w .loop .i) _ (w .loop .inv) (search needs) (told (c .before)) (c .if1 .taken))
+    sym (filling-wrong (node a) (a .args .held) (a .args .q .now) (a .pre .1) (a .pre .0) (w .loop .keys) (w .loop .i) _ (w .loop .inv)
+    (search needs) (told (c .before)) (c .if1 .taken))
 
 mul-keys : tie.Need-mul-keys Inv-loop μ-loop
 mul-keys c = search needs
@@ -83,7 +86,8 @@ loop-again : tie.Need-loop-again Inv-loop μ-loop
 loop-again c =
     let w = c .before .before .before .before in
     let a = w .before .before in
-    filling-more (node a) (a .args .held) (a .args .q .now) (a .pre .1) (a .pre .0) (w .loop .keys) (w .loop .i) _ (w .loop .inv) (search needs) (told (c .before)) (c .if1 .left)
+    filling-more (node a) (a .args .held) (a .args .q .now) (a .pre .1) (a .pre .0) (w .loop .keys) (w .loop .i) _ (w .loop .inv)
+    (search needs) (told (c .before)) (c .if1 .left)
 
 mul-rest : tie.Need-mul-rest Inv-loop μ-loop
 mul-rest c = search needs
@@ -104,7 +108,8 @@ returns-2 : tie.Need-returns-2 Inv-loop μ-loop
 returns-2 c =
     let w = c .before .before .before .before in
     let a = w .before .before in
-    sym (filling-rest (node a) (a .args .held) (a .args .q .now) (a .pre .1) (a .pre .0) (w .loop .keys) (w .loop .i) 0 (w .loop .inv) (c .before .before .before .loop-test .left) (denied _ _ (behind (c .before)) (c .if2 .taken)))
+    sym (filling-rest (node a) (a .args .held) (a .args .q .now) (a .pre .1) (a .pre .0) (w .loop .keys) (w .loop .i) 0 (w .loop .inv)
+    (c .before .before .before .loop-test .left) (denied _ _ (behind (c .before)) (c .if2 .taken)))
 
 array-share-prefix-keys : tie.Need-array-share-prefix-keys Inv-loop μ-loop
 array-share-prefix-keys c = let w = c .before .before .before .before in let a = w .before .before in omega (arith, w .loop .inv .many, a .pre .1)
@@ -124,7 +129,9 @@ returns-3 c =
     let z = c .before .before in
     let w = z .before .before .before .before in
     let a = w .before .before in
-    c .some-equal .ensures ∙ sym (filling-end (node a) (a .args .held) (a .args .q .now) (a .pre .1) (a .pre .0) (w .loop .keys) (w .loop .i) 0 (w .loop .inv) (z .before .before .before .loop-test .left) (a .pre .2) (passed _ _ (behind (z .before)) (z .if2 .left)))
+    c .some-equal .ensures
+    ∙ sym (filling-end (node a) (a .args .held) (a .args .q .now) (a .pre .1) (a .pre .0) (w .loop .keys) (w .loop .i) 0 (w .loop .inv)
+    (z .before .before .before .loop-test .left) (a .pre .2) (passed _ _ (behind (z .before)) (z .if2 .left)))
 
 pub wrong-queue-spec : {M : Type 1} → statement M
 wrong-queue-spec =

@@ -85,13 +85,24 @@ same-length-6 c = search needs
 returns-2 : tie.Need-returns-2
 returns-2 c =
     let d = c .before .before .before .before .before .before .before .before .before .before in
-    deliver-told _ _ _ _ (d .before .before .before .before .before .before .before .before .before .before .args .values .now) _ _ _ _ _ (d .before .before .before .before .load .ensures) (d .deliver .ensures) _ (c .before .before .answer2 .given .1)
+    deliver-told _ _ _ _ (d .before .before .before .before .before .before .before .before .before .before .args .values .now) _ _ _ _ _
+    (d .before .before .before .before .load .ensures) (d .deliver .ensures) _ (c .before .before .answer2 .given .1)
 
 same-length-7 : tie.Need-same-length-7
-same-length-7 c = omega (arith, c .before .before .before .before .before .before .before .before .before .before .before .before .before .before .before .before .before .before .before .deliver .kept .1)
+same-length-7 c =
+    omega (
+      arith,
+      c .before .before .before .before .before .before .before .before .before .before .before .before .before .before .before .before
+          .before .before .before .deliver .kept .1,
+    )
 
 same-length-8 : tie.Need-same-length-8
-same-length-8 c = omega (arith, c .before .before .before .before .before .before .before .before .before .before .before .before .before .before .before .before .before .before .before .deliver .kept .1)
+same-length-8 c =
+    omega (
+      arith,
+      c .before .before .before .before .before .before .before .before .before .before .before .before .before .before .before .before
+          .before .before .before .deliver .kept .1,
+    )
 
 same-length-9 : tie.Need-same-length-9
 same-length-9 c = search needs
@@ -101,7 +112,8 @@ returns-3 c =
     let s = c .before .before .before .before .before .before .before in
     let a = s .before .before .before .before in
     let d = a .before .before .before .before .before .before .before .before in
-    deliver-stored _ _ _ _ (d .before .before .before .before .before .before .before .before .before .before .args .values .now) _ _ _ _ _ (d .before .before .before .before .load .ensures) (d .deliver .ensures) _ (a .answer3 .given .1) _ (s .store .ensures)
+    deliver-stored _ _ _ _ (d .before .before .before .before .before .before .before .before .before .before .args .values .now) _ _ _ _ _
+    (d .before .before .before .before .load .ensures) (d .deliver .ensures) _ (a .answer3 .given .1) _ (s .store .ensures)
 
 pub node-deliver-spec : {M : Type 1} → statement M
 node-deliver-spec =

@@ -44,7 +44,8 @@ returns-2 : tie.Need-returns-2
 returns-2 c =
     let a = c .before .before .before .before .before in
     let d = a .before .before .before .before in
-    offer-stored _ _ _ (d .before .before .before .before .before .before .before .args .values .now) _ _ _ (d .before .before .load .ensures) (d .offer .ensures) _ _ (a .answer2 .given .1) _ (c .before .store .ensures)
+    offer-stored _ _ _ (d .before .before .before .before .before .before .before .args .values .now) _ _ _ (d .before .before .load .ensures)
+    (d .offer .ensures) _ _ (a .answer2 .given .1) _ (c .before .store .ensures)
 
 pub node-offer-spec : {M : Type 1} → statement M
 node-offer-spec =

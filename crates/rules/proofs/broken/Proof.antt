@@ -49,7 +49,8 @@ returns-5 c =
     let i = q .before in
     let a = i .before .before .args in
     ap not (c .counts-ok .ensures)
-    ∙ sym (rules-left (a .me) (a .n) (a .cap) (entry (a .m .now)) (vector (a .v .now)) (a .held) (passed _ _ (i .before .in-range .ensures) (i .if1 .left)) (omega (arith, f .before .before .before .if2 .left, q .count .ensures)) (f .if4 .left) (f .before .before .if3 .left))
+    ∙ sym (rules-left (a .me) (a .n) (a .cap) (entry (a .m .now)) (vector (a .v .now)) (a .held) (passed _ _ (i .before .in-range .ensures) (i .if1 .left))
+    (omega (arith, f .before .before .before .if2 .left, q .count .ensures)) (f .if4 .left) (f .before .before .if3 .left))
 
 pub broken-spec : {M : Type 1} → statement M
 broken-spec =

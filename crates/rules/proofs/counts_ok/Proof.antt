@@ -42,7 +42,8 @@ returns c =
     let o = c .before .before in
     let w = o .before .before .before in
     let z = w .before .before .before in
-    counts-kept _ _ _ _ _ _ _ _ _ _ _ _ _ _ _ (z .before .before .zero-diagonal .ensures) (z .before .zero-column .ensures) (z .both .ensures) (w .before .before .matrix-within .ensures) (w .before .vector-within .ensures) (w .both2 .ensures)
+    counts-kept _ _ _ _ _ _ _ _ _ _ _ _ _ _ _ (z .before .before .zero-diagonal .ensures) (z .before .zero-column .ensures) (z .both .ensures)
+    (w .before .before .matrix-within .ensures) (w .before .vector-within .ensures) (w .both2 .ensures)
     (o .before .before .matrix-zero-from .ensures) (o .before .vector-zero-from .ensures) (o .both3 .ensures) (c .before .both4 .ensures) (c .both5 .ensures)
 
 pub counts-ok-spec : {M : Type 1} → statement M

@@ -47,8 +47,11 @@ loop-again c =
     let z = c .before in
     let w = z .before .before in
     let a = w .before .before .args in
-    let m = entry (a .m .now) in
-    (search needs, each-after (eachBelow 12 (λ x. eachBelow 12 (λ y. ltb x (a .n) || eqb (m x y) 0))) (w .loop .x) (λ x. eachBelow 12 (λ y. ltb y (a .n) || eqb (m x y) 0)) _ _ _ (w .loop .inv .1) (z .row-zero-from .ensures) (c .both .ensures))
+    let m = entry (a .m .now) in (
+      search needs,
+      each-after (eachBelow 12 (λ x. eachBelow 12 (λ y. ltb x (a .n) || eqb (m x y) 0))) (w .loop .x)
+          (λ x. eachBelow 12 (λ y. ltb y (a .n) || eqb (m x y) 0)) _ _ _ (w .loop .inv .1) (z .row-zero-from .ensures) (c .both .ensures),
+    )
 
 returns : tie.Need-returns Inv-loop μ-loop
 returns c =

@@ -48,7 +48,8 @@ loop-again c =
     let a = w .before .args in
     let y = w .loop .y in (
       search needs,
-      some-turn y (λ b. eqb (entry (a .m .now) (a .me) b) maxCount) _ _ _ (w .loop .inv .1) (ap (λ (v : ℕ). eqb v maxCount) (sym (entry-in (a .m .now) (a .me) y (search needs) (search needs)))) (c .either .ensures),
+      some-turn y (λ b. eqb (entry (a .m .now) (a .me) b) maxCount) _ _ _ (w .loop .inv .1)
+          (ap (λ (v : ℕ). eqb v maxCount) (sym (entry-in (a .m .now) (a .me) y (search needs) (search needs)))) (c .either .ensures),
     )
 
 returns : tie.Need-returns Inv-loop μ-loop

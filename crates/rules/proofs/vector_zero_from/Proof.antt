@@ -41,8 +41,10 @@ loop-less c = search needs
 loop-again : tie.Need-loop-again Inv-loop μ-loop
 loop-again c =
     let w = c .before .before .before .before in
-    let a = w .before .args in
-    (search needs, each-turn (w .loop .x) (λ i. ltb i (a .n) || eqb (vector (a .v .now) i) 0) _ _ _ (w .loop .inv .1) (c .before .either .ensures) (c .both .ensures))
+    let a = w .before .args in (
+      search needs,
+      each-turn (w .loop .x) (λ i. ltb i (a .n) || eqb (vector (a .v .now) i) 0) _ _ _ (w .loop .inv .1) (c .before .either .ensures) (c .both .ensures),
+    )
 
 returns : tie.Need-returns Inv-loop μ-loop
 returns c =

@@ -49,7 +49,8 @@ loop-again c =
     let y = w .before .args .y in
     let x = w .loop .x in (
       search needs,
-      each-turn x (λ a. eqb (entry m a y) 0) _ _ _ (w .loop .inv .1) (ap (λ (v : ℕ). eqb v 0) (sym (entry-in m x y (search needs) (search needs)))) (c .both .ensures),
+      each-turn x (λ a. eqb (entry m a y) 0) _ _ _ (w .loop .inv .1)
+          (ap (λ (v : ℕ). eqb v 0) (sym (entry-in m x y (search needs) (search needs)))) (c .both .ensures),
     )
 
 returns : tie.Need-returns Inv-loop μ-loop

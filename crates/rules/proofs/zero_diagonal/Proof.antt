@@ -48,7 +48,8 @@ loop-again c =
     let m = w .before .args .m .now in
     let x = w .loop .x in (
       search needs,
-      each-turn x (λ a. eqb (entry m a a) 0) _ _ _ (w .loop .inv .1) (ap (λ (v : ℕ). eqb v 0) (sym (entry-in m x x (search needs) (search needs)))) (c .both .ensures),
+      each-turn x (λ a. eqb (entry m a a) 0) _ _ _ (w .loop .inv .1)
+          (ap (λ (v : ℕ). eqb v 0) (sym (entry-in m x x (search needs) (search needs)))) (c .both .ensures),
     )
 
 returns : tie.Need-returns Inv-loop μ-loop

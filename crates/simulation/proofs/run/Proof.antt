@@ -34,8 +34,11 @@ same-length-2 c = search needs
 returns-3 : tie.Need-returns-3
 returns-3 c =
     let w = c .before .before .before .before .before in
-    let r = c .before .before .put-refusal2 .ensures in
-    (run-written _ _ (omega arith) _ (output-none _ (omega arith) _ (w .find .ensures .0) (c .before .before .before .before .if3 .taken)) _ _ (r .1 .0 ∙ zero-add _) (r .1 .1), omega (arith, r .0))
+    let r = c .before .before .put-refusal2 .ensures in (
+      run-written _ _ (omega arith) _ (output-none _ (omega arith) _ (w .find .ensures .0) (c .before .before .before .before .if3 .taken)) _ _
+          (r .1 .0 ∙ zero-add _) (r .1 .1),
+      omega (arith, r .0),
+    )
 
 slice-aggregate-parse-first-line : tie.Need-slice-aggregate-parse-first-line
 slice-aggregate-parse-first-line c = sym (length-take-le _ _ (c .before .before .find .ensures .1))
@@ -65,8 +68,11 @@ returns-4 : tie.Need-returns-4
 returns-4 c =
     let w = c .before .before .before .before .before .before .before .before .before .before in
     let r = c .before .before .run-sizes .ensures in
-    let e = sym (c .before .before .before .before .before .before .before .parse-first-line .ensures) ∙ c .before .before .before .before .before .first .given .1 in
-    (run-written _ _ (omega arith) _ (output-first _ (omega arith) _ (w .find .ensures .0) (omega (arith, w .find .ensures .1)) _ e) _ _ (r .1 .0) (r .1 .1), r .0)
+    let e = sym (c .before .before .before .before .before .before .before .parse-first-line .ensures)
+    ∙ c .before .before .before .before .before .first .given .1 in (
+      run-written _ _ (omega arith) _ (output-first _ (omega arith) _ (w .find .ensures .0) (omega (arith, w .find .ensures .1)) _ e) _ _ (r .1 .0) (r .1 .1),
+      r .0,
+    )
 
 same-length-4 : tie.Need-same-length-4
 same-length-4 c = search needs
@@ -75,8 +81,11 @@ returns-5 : tie.Need-returns-5
 returns-5 c =
     let w = c .before .before .before .before .before .before .before .before .before in
     let r = c .before .before .put-refusal3 .ensures in
-    let e = sym (c .before .before .before .before .before .before .parse-first-line .ensures) ∙ c .before .before .before .before .enum-told .given .1 in
-    (run-written _ _ (omega arith) _ (output-other _ (omega arith) _ (w .find .ensures .0) (omega (arith, w .find .ensures .1)) e) _ _ (r .1 .0 ∙ zero-add _) (r .1 .1), omega (arith, r .0))
+    let e = sym (c .before .before .before .before .before .before .parse-first-line .ensures) ∙ c .before .before .before .before .enum-told .given .1 in (
+      run-written _ _ (omega arith) _ (output-other _ (omega arith) _ (w .find .ensures .0) (omega (arith, w .find .ensures .1)) e) _ _
+          (r .1 .0 ∙ zero-add _) (r .1 .1),
+      omega (arith, r .0),
+    )
 
 pub run-spec : {M : Type 1} → statement M
 run-spec =

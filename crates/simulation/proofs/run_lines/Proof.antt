@@ -16,7 +16,8 @@ use Rattle.simulation.proofs.run_lines.Tie as tie
 
 abbrev Inv-loop : tie.InvT-loop
 Inv-loop input from queues₀ log₀ out₀ yard₀ pos₀ at₀ end₀ queues log out yard pos at end =
-    (at ≤ length input) × (end ≡ at + before 10 (drop at input)) × (end ≤ length input) × (length queues ≡ length queues₀) × (length log ≡ length log₀) × (length out ≡ length out₀)
+    (at ≤ length input) × (end ≡ at + before 10 (drop at input)) × (end ≤ length input) × (length queues ≡ length queues₀)
+    × (length log ≡ length log₀) × (length out ≡ length out₀)
     × (pos ≤ 5 * at + 17 * yard .world .issued)
     × ((n cap : ℕ) → Holds n cap maxIssues 0 (start n cap) (yard₀ .world) queues₀ log₀ → Running n cap input from out₀ yard queues log out at pos)
 
@@ -30,11 +31,22 @@ find-requires : tie.Need-find-requires Inv-loop μ-loop
 find-requires c κs = search needs
 
 loop-holds : tie.Need-loop-holds Inv-loop μ-loop
-loop-holds c =
-    (search needs, c .find .ensures .0, c .find .ensures .1, refl, refl, refl, omega arith, λ n cap h. running-starts n cap _ _ _ _ _ _ h (c .before .no-counters .ensures))
+loop-holds c = (
+  search needs,
+  c .find .ensures .0,
+  c .find .ensures .1,
+  refl,
+  refl,
+  refl,
+  omega arith,
+  λ n cap h. running-starts n cap _ _ _ _ _ _ h (c .before .no-counters .ensures),
+)
 
 -- the yard at a turn of the loop, for some n and cap
-turn : (c : tie.At-loop Inv-loop μ-loop) → let p = c .before .before .before .before .before .before .before .pre .0 in Running (p .n) (p .cap) (c .before .before .before .before .before .before .before .args .input .now) (c .before .before .before .before .before .before .before .args .from) (c .before .before .before .before .before .before .before .args .out .now) (c .loop .yard) (c .loop .queues) (c .loop .log) (c .loop .out) (c .loop .at) (c .loop .pos)
+turn : (c : tie.At-loop Inv-loop μ-loop) → let p = c .before .before .before .before .before .before .before .pre .0 in
+    Running (p .n) (p .cap) (c .before .before .before .before .before .before .before .args .input .now)
+    (c .before .before .before .before .before .before .before .args .from) (c .before .before .before .before .before .before .before .args .out .now)
+    (c .loop .yard) (c .loop .queues) (c .loop .log) (c .loop .out) (c .loop .at) (c .loop .pos)
 turn c = let p = c .before .before .before .before .before .before .before .pre .0 in c .loop .inv .7 (p .n) (p .cap) (p .holds)
 
 sub-take : tie.Need-sub-take Inv-loop μ-loop
@@ -50,8 +62,10 @@ take-requires : tie.Need-take-requires Inv-loop μ-loop
 take-requires c κs =
     let w = c .before .before .before .before .before in
     let r = turn w in
-    let p = w .before .before .before .before .before .before .before .pre in
-    (running-standing _ _ _ _ _ _ _ _ _ _ _ r (omega (arith, w .loop .inv .0, p .2)), omega (arith, w .loop .inv .0, w .loop .inv .5, w .loop .inv .6, r .stands .world .issued, r .stands .world .below, p .2, p .3))
+    let p = w .before .before .before .before .before .before .before .pre in (
+      running-standing _ _ _ _ _ _ _ _ _ _ _ r (omega (arith, w .loop .inv .0, p .2)),
+      omega (arith, w .loop .inv .0, w .loop .inv .5, w .loop .inv .6, r .stands .world .issued, r .stands .world .below, p .2, p .3),
+    )
 
 add-at : tie.Need-add-at Inv-loop μ-loop
 add-at c = search needs
@@ -60,13 +74,16 @@ find-requires-2 : tie.Need-find-requires-2 Inv-loop μ-loop
 find-requires-2 c κs = omega arith
 
 loop-less : tie.Need-loop-less Inv-loop μ-loop
-loop-less c = let w = c .before .before .before .before .before .before .before .before .before .before .before .before .before .before in omega (arith, w .loop .inv .1)
+loop-less c =
+    let w = c .before .before .before .before .before .before .before .before .before .before .before .before .before .before in omega (arith, w .loop .inv .1)
 
 loop-again : tie.Need-loop-again Inv-loop μ-loop
 loop-again c =
     let w = c .before .before .before .before .before .before .before .before .before .before .before .before .before .before in
     let t = c .before .before .before .before .before .before .before .before .take in
-    let long : length (take (w .loop .end - w .loop .at) (drop (w .loop .at) (w .before .before .before .before .before .before .before .args .input .now))) ≡ w .loop .end - w .loop .at = length-take-le _ _ (omega (arith, length-drop (w .loop .at) (w .before .before .before .before .before .before .before .args .input .now), w .loop .inv .2)) in (
+    let long : length (take (w .loop .end - w .loop .at) (drop (w .loop .at) (w .before .before .before .before .before .before .before .args .input .now)))
+    ≡ w .loop .end - w .loop .at = length-take-le _ _
+    (omega (arith, length-drop (w .loop .at) (w .before .before .before .before .before .before .before .args .input .now), w .loop .inv .2)) in (
       omega arith,
       c .find2 .ensures .0,
       c .find2 .ensures .1,
@@ -76,7 +93,8 @@ loop-again c =
       omega (arith, t .ensures .0, long, w .loop .inv .1, w .loop .inv .6),
       λ n cap h.
           let r = w .loop .inv .7 n cap h in
-          running-goes n cap _ _ _ _ _ _ _ _ _ _ r (w .loop .inv .1) (omega arith) _ _ _ _ (t .ensures .1 n cap (r .steps) (r .yard) (omega (arith, r .few, w .loop .inv .0, w .before .before .before .before .before .before .before .pre .2)) (r .stands)),
+          running-goes n cap _ _ _ _ _ _ _ _ _ _ r (w .loop .inv .1) (omega arith) _ _ _ _ (t .ensures .1 n cap (r .steps) (r .yard)
+          (omega (arith, r .few, w .loop .inv .0, w .before .before .before .before .before .before .before .pre .2)) (r .stands)),
     )
 
 -- what is printed ends well before the output does
@@ -106,7 +124,8 @@ returns c =
     let w = c .before .before .before .before .before .before in
     let r = c .before .before .put-ending .ensures in (
       omega (arith, r .0, room-left (c .before .before .before .before .before)),
-      λ n cap h. running-ends n cap _ _ _ _ _ _ _ _ _ (w .loop .end) (w .loop .inv .7 n cap h) (w .loop .inv .1) (omega (arith, w .loop .inv .2)) (w .loop .inv .0) _ refl _ _ (r .1 .0) (r .1 .1),
+      λ n cap h. running-ends n cap _ _ _ _ _ _ _ _ _ (w .loop .end) (w .loop .inv .7 n cap h) (w .loop .inv .1) (omega (arith, w .loop .inv .2))
+          (w .loop .inv .0) _ refl _ _ (r .1 .0) (r .1 .1),
     )
 
 pub run-lines-spec : {M : Type 1} → statement M

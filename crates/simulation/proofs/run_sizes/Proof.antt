@@ -41,8 +41,18 @@ slice-aggregate-run-lines-2 c = search needs
 run-lines-requires : tie.Need-run-lines-requires
 unfolding logSize
 run-lines-requires c κs =
-    let p = c .before .before .before .before .before .before .before .before .pre in
-    (record { n = _; cap = _; holds = stored-start _ _ (passed _ _ (c .before .before .before .before .before .startable .ensures) (c .before .before .before .before .if1 .left)) _ (c .before .before .before .fresh .ensures) 51328 53376 refl refl }, p .0, p .1, p .2)
+    let p = c .before .before .before .before .before .before .before .before .pre in (
+      record {
+        n = _;
+        cap = _;
+        holds =
+            stored-start _ _ (passed _ _ (c .before .before .before .before .before .startable .ensures) (c .before .before .before .before .if1 .left)) _
+            (c .before .before .before .fresh .ensures) 51328 53376 refl refl;
+      },
+      p .0,
+      p .1,
+      p .2,
+    )
 
 same-length-2 : tie.Need-same-length-2
 same-length-2 c = search needs
@@ -50,7 +60,8 @@ same-length-2 c = search needs
 returns-2 : tie.Need-returns-2
 unfolding logSize
 returns-2 c =
-    let s = passed _ _ (c .before .before .before .before .before .before .before .before .before .before .startable .ensures) (c .before .before .before .before .before .before .before .before .before .if1 .left) in
+    let s = passed _ _ (c .before .before .before .before .before .before .before .before .before .before .startable .ensures)
+    (c .before .before .before .before .before .before .before .before .before .if1 .left) in
     let r = c .before .before .before .before .run-lines .ensures in
     let d = r .1 _ _ (stored-start _ _ s _ (c .before .before .before .before .before .before .before .before .fresh .ensures) 51328 53376 refl refl) in
     let z = shown-first _ _ _ _ _ (started-yes _ _ _ s) (d .0) (d .1) in

@@ -63,7 +63,9 @@ put-decimal-put-decimal-requires : (t : ℕ) → put-decimal-lts.Need-put-decima
   put-decimal-below t,
   put-decimal.Post,
 ) (put-decimal-at t) put-decimal.Post
-put-decimal-put-decimal-requires t c κs = let v = c .before .before .before .args .v in (omega arith, omega (arith, decimal-longer v (c .before .if1 .left) (omega arith)))
+put-decimal-put-decimal-requires t c κs =
+    let v = c .before .before .before .args .v in
+    (omega arith, omega (arith, decimal-longer v (c .before .if1 .left) (omega arith)))
 
 put-decimal-cast-out-2 : (t : ℕ) → put-decimal-lts.Need-cast-out-2 (
   put-decimal-below t,
@@ -81,13 +83,22 @@ put-decimal-slice-write-out-2 : (t : ℕ) → put-decimal-lts.Need-slice-write-o
   put-decimal-below t,
   put-decimal.Post,
 ) (put-decimal-at t) put-decimal.Post
-put-decimal-slice-write-out-2 t c = let w = c .before .before .before .before in omega (arith, decimal-longer (w .before .before .args .v) (w .if1 .left) (omega arith), c .before .before .put-decimal .kept .0, c .before .before .put-decimal .ensures .0)
+put-decimal-slice-write-out-2 t c =
+    let w = c .before .before .before .before in
+    omega (
+      arith,
+      decimal-longer (w .before .before .args .v) (w .if1 .left) (omega arith),
+      c .before .before .put-decimal .kept .0,
+      c .before .before .put-decimal .ensures .0,
+    )
 
 put-decimal-add-result-2 : (t : ℕ) → put-decimal-lts.Need-add-result-2 (
   put-decimal-below t,
   put-decimal.Post,
 ) (put-decimal-at t) put-decimal.Post
-put-decimal-add-result-2 t c = let w = c .before .before .before .before in omega (arith, decimal-longer (w .before .before .args .v) (w .if1 .left) (omega arith))
+put-decimal-add-result-2 t c =
+    let w = c .before .before .before .before in
+    omega (arith, decimal-longer (w .before .before .args .v) (w .if1 .left) (omega arith))
 
 put-decimal-same-length-2 : (t : ℕ) → put-decimal-lts.Need-same-length-2 (
   put-decimal-below t,

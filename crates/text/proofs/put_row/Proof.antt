@@ -25,11 +25,16 @@ add-end c = let a = c .before .before .args in omega (arith, ap length (row-star
 same : (c : tie.At-loop Inv-loop μ-loop) → length (c .loop .out) ≡ length (c .before .before .before .args .out .now)
 same c = let a = c .before .before .before .args in c .loop .inv .same ∙ length-set (a .out .now) (a .at) (a .letter)
 
-fits : (c : tie.In-loop Inv-loop μ-loop) → c .before .loop .end + 1 + length (decimal (getD (c .before .before .before .before .args .values .now) (c .before .loop .i) 0)) ≤ length (c .before .loop .out)
-fits c = let a = c .before .before .before .before .args in printing-fits (a .letter) (a .at) _ (a .out .now) _ _ _ (c .before .loop .inv) (c .before .before .before .before .pre) (c .loop-test .taken)
+fits : (c : tie.In-loop Inv-loop μ-loop) → c .before .loop .end + 1 + length
+    (decimal (getD (c .before .before .before .before .args .values .now) (c .before .loop .i) 0)) ≤ length (c .before .loop .out)
+fits c =
+    let a = c .before .before .before .before .args in
+    printing-fits (a .letter) (a .at) _ (a .out .now) _ _ _ (c .before .loop .inv) (c .before .before .before .before .pre) (c .loop-test .taken)
 
 last : (c : tie.After-loop Inv-loop μ-loop) → c .before .loop .end + 1 ≤ length (c .before .loop .out)
-last c = let a = c .before .before .before .before .args in printing-last (a .letter) (a .at) _ (a .out .now) _ _ _ (c .before .loop .inv) (c .before .before .before .before .pre) (search needs)
+last c =
+    let a = c .before .before .before .before .args in
+    printing-last (a .letter) (a .at) _ (a .out .now) _ _ _ (c .before .loop .inv) (c .before .before .before .before .pre) (search needs)
 
 loop-holds : tie.Need-loop-holds Inv-loop μ-loop
 loop-holds c = printing-starts _ _ _

@@ -5,7 +5,8 @@ use borrow.Author.Needs.{needs}
 use lib.ListN.{drop, length}
 use Rattle.wire.proofs.Tests.{denied, passed}
 use Rattle.text.specs.Fields.{continued, value}
-use Rattle.text.proofs.Fields.{continued-ends, continued-goes, continued-stops, digit-range, digits-below, digits-fit, value-empty, value-long, value-whole}
+use Rattle.text.proofs.Fields.{continued-ends, continued-goes, continued-stops, digit-range, digits-below}
+use Rattle.text.proofs.Fields.{digits-fit, value-empty, value-long, value-whole}
 use Rattle.text.proofs.value.Statement.{statement}
 use Rattle.text.proofs.value.Tie as tie
 
@@ -51,8 +52,11 @@ loop-again : tie.Need-loop-again Inv-loop μ-loop
 loop-again c =
     let b = c .before .before in
     let w = b .before .before .before in
-    let digit = passed _ _ (b .is-digit .ensures) (c .before .if3 .left) in
-    (search needs, rw (c .with-digit .ensures) (digits-below (w .loop .v) (w .loop .i) _ (w .loop .inv .1) (digit-range _ digit .1)), rw (c .with-digit .ensures) (sym (continued-goes (w .loop .v) _ (w .loop .i) (search needs) digit) ∙ w .loop .inv .2))
+    let digit = passed _ _ (b .is-digit .ensures) (c .before .if3 .left) in (
+      search needs,
+      rw (c .with-digit .ensures) (digits-below (w .loop .v) (w .loop .i) _ (w .loop .inv .1) (digit-range _ digit .1)),
+      rw (c .with-digit .ensures) (sym (continued-goes (w .loop .v) _ (w .loop .i) (search needs) digit) ∙ w .loop .inv .2),
+    )
 
 returns-4 : tie.Need-returns-4 Inv-loop μ-loop
 returns-4 c =

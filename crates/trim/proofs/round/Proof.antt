@@ -41,8 +41,11 @@ returns c =
     let s = f .before .before .before in
     let a = s .args in
     let m = entry (a .m .now) in
-    let e : f .fullest .result ≡ fullest m = f .fullest .ensures in
-    (rw e at (c .clear-column .ensures), rw e at (x .extra .ensures .1), omega (arith, rw e at (x .extra .ensures .0), length-extra (a .me) (fullest m) (a .n) (a .cap) m (fullest-lt m)))
+    let e : f .fullest .result ≡ fullest m = f .fullest .ensures in (
+      rw e at (c .clear-column .ensures),
+      rw e at (x .extra .ensures .1),
+      omega (arith, rw e at (x .extra .ensures .0), length-extra (a .me) (fullest m) (a .n) (a .cap) m (fullest-lt m)),
+    )
 
 pub round-spec : {M : Type 1} → statement M
 round-spec =

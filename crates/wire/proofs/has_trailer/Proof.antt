@@ -25,7 +25,10 @@ returns-2 : tie.Need-returns-2
 unfolding hasTrailer countBack
 returns-2 c =
     let s = c .before .before .before .before .args .s .now in
-    simp (le-leb 4 (length s) (c .before .before .if1 .left), ne-eqb (u16At s (length s - 4)) (length s - 4) (λ e. c .if2 .taken (c .before .get-u16 .ensures ∙ e)))
+    simp (
+      le-leb 4 (length s) (c .before .before .if1 .left),
+      ne-eqb (u16At s (length s - 4)) (length s - 4) (λ e. c .if2 .taken (c .before .get-u16 .ensures ∙ e)),
+    )
 
 sub-mid : tie.Need-sub-mid
 sub-mid c = search needs
@@ -43,7 +46,12 @@ returns-3 : tie.Need-returns-3
 unfolding hasTrailer countBack sumBack
 returns-3 c =
     let s = c .before .before .before .before .before .before .before .args .s .now in
-    simp (le-leb 4 (length s) (c .before .before .before .before .before .if1 .left), eq-eqb (u16At s (length s - 4)) (length s - 4) (sym (c .before .before .before .before .get-u16 .ensures) ∙ c .before .before .before .if2 .left), c .before .before .get-u162 .ensures, c .checksum .ensures)
+    simp (
+      le-leb 4 (length s) (c .before .before .before .before .before .if1 .left),
+      eq-eqb (u16At s (length s - 4)) (length s - 4) (sym (c .before .before .before .before .get-u16 .ensures) ∙ c .before .before .before .if2 .left),
+      c .before .before .get-u162 .ensures,
+      c .checksum .ensures,
+    )
 
 pub has-trailer-spec : {M : Type 1} → statement M
 has-trailer-spec =

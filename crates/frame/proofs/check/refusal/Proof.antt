@@ -36,7 +36,8 @@ returns-3 c =
     let k = c .before .before in
     let r = k .before .before in
     let t = sym (r .before .before .wrong-trailer .ensures) ∙ r .before .if1 .left in
-    sym (refusal-10 _ _ _ _ (r .read .ensures) t (sym (k .before .wrong-kind .ensures) ∙ k .if2 .left) (sym (c .before .wrong-address .ensures) ∙ c .if3 .taken))
+    sym (refusal-10 _ _ _ _ (r .read .ensures) t (sym (k .before .wrong-kind .ensures) ∙ k .if2 .left)
+    (sym (c .before .wrong-address .ensures) ∙ c .if3 .taken))
 
 wrong-content-requires : tie.Need-wrong-content-requires
 wrong-content-requires c κs =
@@ -50,7 +51,8 @@ returns-4 c =
     let k = a .before .before in
     let r = k .before .before in
     let t = sym (r .before .before .wrong-trailer .ensures) ∙ r .before .if1 .left in
-    sym (refusal-11 _ _ _ _ (r .read .ensures) t (sym (k .before .wrong-kind .ensures) ∙ k .if2 .left) (sym (a .before .wrong-address .ensures) ∙ a .if3 .left) (sym (c .before .wrong-content .ensures) ∙ c .if4 .taken))
+    sym (refusal-11 _ _ _ _ (r .read .ensures) t (sym (k .before .wrong-kind .ensures) ∙ k .if2 .left) (sym (a .before .wrong-address .ensures) ∙ a .if3 .left)
+    (sym (c .before .wrong-content .ensures) ∙ c .if4 .taken))
 
 returns-5 : tie.Need-returns-5
 returns-5 c =
@@ -58,7 +60,8 @@ returns-5 c =
     let k = a .before .before in
     let r = k .before .before in
     let t = sym (r .before .before .wrong-trailer .ensures) ∙ r .before .if1 .left in
-    sym (refusal-none _ _ _ _ (r .read .ensures) t (sym (k .before .wrong-kind .ensures) ∙ k .if2 .left) (sym (a .before .wrong-address .ensures) ∙ a .if3 .left) (sym (c .before .wrong-content .ensures) ∙ c .if4 .left))
+    sym (refusal-none _ _ _ _ (r .read .ensures) t (sym (k .before .wrong-kind .ensures) ∙ k .if2 .left)
+    (sym (a .before .wrong-address .ensures) ∙ a .if3 .left) (sym (c .before .wrong-content .ensures) ∙ c .if4 .left))
 
 pub refusal-spec : {M : Type 1} → statement M
 refusal-spec =

@@ -20,12 +20,19 @@ returns-3 c = simp (eq-eqb _ _ (c .before .before .before .before .if1 .left), e
 
 returns-4 : tie.Need-returns-4
 unfolding wrongAddress
-returns-4 c = simp (eq-eqb _ _ (c .before .before .before .before .before .before .if1 .left), eq-eqb _ _ (c .before .before .before .before .if2 .left), lt-ltb _ _ (c .before .before .if3 .left), le-ltb _ _ (c .if4 .taken))
+returns-4 c =
+    simp (
+      eq-eqb _ _ (c .before .before .before .before .before .before .if1 .left),
+      eq-eqb _ _ (c .before .before .before .before .if2 .left),
+      lt-ltb _ _ (c .before .before .if3 .left),
+      le-ltb _ _ (c .if4 .taken),
+    )
 
 returns-5 : tie.Need-returns-5
 returns-5 c =
     let b = c .before in
-    sym (address-left _ _ (b .before .before .before .before .before .before .before .before .args .h) (b .before .before .before .before .before .before .if1 .left) (b .before .before .before .before .if2 .left) (b .before .before .if3 .left) (b .if4 .left))
+    sym (address-left _ _ (b .before .before .before .before .before .before .before .before .args .h)
+    (b .before .before .before .before .before .before .if1 .left) (b .before .before .before .before .if2 .left) (b .before .before .if3 .left) (b .if4 .left))
 
 pub wrong-address-spec : {M : Type 1} → statement M
 wrong-address-spec = tie.close (tie.spec returns returns-2 returns-3 returns-4 returns-5)

@@ -53,7 +53,8 @@ returns-4 c =
     let d = f .before .before in
     let b = d .before .before in
     let s = b .before .before .before .before in
-    c .wrong-entries .ensures ∙ sym (content-left _ _ _ _ (s .pre .0) (s .pre .2) (b .if1 .left) (sym (d .before .wrong-body .ensures) ∙ d .if2 .left) (f .if3 .left))
+    c .wrong-entries .ensures
+    ∙ sym (content-left _ _ _ _ (s .pre .0) (s .pre .2) (b .if1 .left) (sym (d .before .wrong-body .ensures) ∙ d .if2 .left) (f .if3 .left))
 
 pub wrong-content-spec : {M : Type 1} → statement M
 wrong-content-spec =

@@ -36,7 +36,10 @@ returns c =
     let a = q .before .args in
     let wrong = denied _ _ (c .before .entry-ok .ensures) (c .if1 .taken) in
     walk-fails (a .n) (a .h) (a .s .now) (a .h .e) (λ i. q .shared-slice-known .given i .fits)
-    (w .loop .inv .2 ∙ rw (entries-rest (a .s .now) (w .loop .k) (a .h .e) (search needs), ← r .read .ensures) (walk-wrong (a .n) (a .h) (w .loop .least) (r .read .result) _ wrong))
+    (w .loop .inv .2 ∙ rw (
+      entries-rest (a .s .now) (w .loop .k) (a .h .e) (search needs),
+      ← r .read .ensures,
+    ) (walk-wrong (a .n) (a .h) (w .loop .least) (r .read .result) _ wrong))
 
 cast-place : tie.Need-cast-place Inv-loop μ-loop
 cast-place c = search needs
@@ -59,7 +62,10 @@ returns-2 c =
     let a = q .before .args in
     let right = passed _ _ (o .before .entry-ok .ensures) (o .if1 .left) in
     walk-fails (a .n) (a .h) (a .s .now) (a .h .e) (λ i. q .shared-slice-known .given i .fits)
-    (w .loop .inv .2 ∙ rw (entries-rest (a .s .now) (w .loop .k) (a .h .e) (search needs), ← r .read .ensures) (walk-early (a .n) (a .h) (w .loop .least) (r .read .result) _ right (c .if2 .taken)))
+    (w .loop .inv .2 ∙ rw (
+      entries-rest (a .s .now) (w .loop .k) (a .h .e) (search needs),
+      ← r .read .ensures,
+    ) (walk-early (a .n) (a .h) (w .loop .least) (r .read .result) _ right (c .if2 .taken)))
 
 add-least : tie.Need-add-least Inv-loop μ-loop
 add-least c = search needs
@@ -80,7 +86,10 @@ loop-again c =
       search needs,
       search needs,
       w .loop .inv .2
-          ∙ rw (entries-rest (a .s .now) (w .loop .k) (a .h .e) (search needs), ← r .read .ensures) (walk-passed (a .n) (a .h) (w .loop .least) (r .read .result) _ right (c .if2 .left)),
+          ∙ rw (
+            entries-rest (a .s .now) (w .loop .k) (a .h .e) (search needs),
+            ← r .read .ensures,
+          ) (walk-passed (a .n) (a .h) (w .loop .least) (r .read .result) _ right (c .if2 .left)),
     )
 
 returns-3 : tie.Need-returns-3 Inv-loop μ-loop

@@ -37,7 +37,8 @@ write-row-requires c κs =
     let s = w .before .before in
     let a = s .args in
     let inside : w .loop .x < 12 = writing-row _ _ _ _ _ (a .m .now) (w .loop .x) (w .loop .inv) (s .pre .1) (omega (arith, s .pre .2)) in (
-      writing-room _ _ _ _ _ _ (listed (12 * w .loop .x) (rowOf (a .m .now) (w .loop .x))) (listed (12 * (w .loop .x + 1)) (drop (12 * (w .loop .x + 1)) (a .m .now))) (w .loop .inv) (rows-rest (a .m .now) (w .loop .x) (s .pre .1) inside) (omega (arith, s .pre .0, s .pre .2)),
+      writing-room _ _ _ _ _ _ (listed (12 * w .loop .x) (rowOf (a .m .now) (w .loop .x))) (listed (12 * (w .loop .x + 1)) (drop (12 * (w .loop .x + 1))
+          (a .m .now))) (w .loop .inv) (rows-rest (a .m .now) (w .loop .x) (s .pre .1) inside) (omega (arith, s .pre .0, s .pre .2)),
       s .pre .1,
       inside,
     )
@@ -63,7 +64,8 @@ loop-again c =
     let s = w .before .before in
     let a = s .args in
     let inside : w .loop .x < 12 = writing-row _ _ _ _ _ (a .m .now) (w .loop .x) (w .loop .inv) (s .pre .1) (omega (arith, s .pre .2)) in
-    writing-part _ _ _ _ _ _ _ _ _ _ (w .loop .inv) (rows-rest (a .m .now) (w .loop .x) (s .pre .1) inside) (b .write-row .ensures .1) (b .write-row .ensures .0)
+    writing-part _ _ _ _ _ _ _ _ _ _ (w .loop .inv) (rows-rest (a .m .now) (w .loop .x) (s .pre .1) inside)
+    (b .write-row .ensures .1) (b .write-row .ensures .0)
 
 same-length : tie.Need-same-length Inv-loop μ-loop
 same-length c = c .before .loop .inv .same

@@ -12,7 +12,8 @@ use Rattle.frame.proofs.entries.write_column.Statement.{statement}
 use Rattle.frame.proofs.entries.write_column.Tie as tie
 
 abbrev Inv-loop : tie.InvT-loop
-Inv-loop out₀ at m l pos₀ x₀ out pos x = (x ≤ 12) × Writing out₀ at (entriesOf (only l (entry m))) out pos (listed (12 * x) (drop (12 * x) (flat (only l (entry m)))))
+Inv-loop out₀ at m l pos₀ x₀ out pos x =
+    (x ≤ 12) × Writing out₀ at (entriesOf (only l (entry m))) out pos (listed (12 * x) (drop (12 * x) (flat (only l (entry m)))))
 
 abbrev μ-loop : tie.MeasureT-loop
 μ-loop out₀ at m l pos₀ x₀ out pos x = 12 - x
@@ -40,7 +41,9 @@ write-place-requires c κs =
     let w = c .before .before .before in
     let s = w .before .before in
     let a = s .args in (
-      writing-room _ _ _ _ _ _ (placed (12 * w .loop .x + a .l) (getD (a .m .now) (12 * w .loop .x + a .l) 0)) (listed (12 * (w .loop .x + 1)) (drop (12 * (w .loop .x + 1)) (flat (only (a .l) (entry (a .m .now)))))) (w .loop .inv .1) (column-rest (a .m .now) (a .l) (w .loop .x) (s .pre .2) (search needs)) (s .pre .0),
+      writing-room _ _ _ _ _ _ (placed (12 * w .loop .x + a .l) (getD (a .m .now) (12 * w .loop .x + a .l) 0))
+          (listed (12 * (w .loop .x + 1)) (drop (12 * (w .loop .x + 1)) (flat (only (a .l) (entry (a .m .now)))))) (w .loop .inv .1)
+          (column-rest (a .m .now) (a .l) (w .loop .x) (s .pre .2) (search needs)) (s .pre .0),
       search needs,
       s .pre .2,
     )
@@ -58,7 +61,8 @@ loop-again c =
     let s = w .before .before in
     let a = s .args in (
       search needs,
-      writing-part _ _ _ _ _ _ _ _ _ _ (w .loop .inv .1) (column-rest (a .m .now) (a .l) (w .loop .x) (s .pre .2) (search needs)) (b .write-place .ensures .1) (b .write-place .ensures .0),
+      writing-part _ _ _ _ _ _ _ _ _ _ (w .loop .inv .1) (column-rest (a .m .now) (a .l) (w .loop .x) (s .pre .2) (search needs))
+          (b .write-place .ensures .1) (b .write-place .ensures .0),
     )
 
 same-length : tie.Need-same-length Inv-loop μ-loop

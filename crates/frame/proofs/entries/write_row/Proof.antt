@@ -37,7 +37,9 @@ write-place-requires c κs =
     let w = c .before .before .before in
     let s = w .before .before in
     let a = s .args in (
-      writing-room _ _ _ _ _ _ (placed (12 * a .x + w .loop .y) (getD (a .m .now) (12 * a .x + w .loop .y) 0)) (listed (12 * a .x + (w .loop .y + 1)) (drop (w .loop .y + 1) (rowOf (a .m .now) (a .x)))) (w .loop .inv .1) (row-rest (a .m .now) (a .x) (w .loop .y) (s .pre .1) (s .pre .2) (search needs)) (s .pre .0),
+      writing-room _ _ _ _ _ _ (placed (12 * a .x + w .loop .y) (getD (a .m .now) (12 * a .x + w .loop .y) 0))
+          (listed (12 * a .x + (w .loop .y + 1)) (drop (w .loop .y + 1) (rowOf (a .m .now) (a .x)))) (w .loop .inv .1)
+          (row-rest (a .m .now) (a .x) (w .loop .y) (s .pre .1) (s .pre .2) (search needs)) (s .pre .0),
       s .pre .2,
       search needs,
     )
@@ -55,7 +57,8 @@ loop-again c =
     let s = w .before .before in
     let a = s .args in (
       search needs,
-      writing-part _ _ _ _ _ _ _ _ _ _ (w .loop .inv .1) (row-rest (a .m .now) (a .x) (w .loop .y) (s .pre .1) (s .pre .2) (search needs)) (b .write-place .ensures .1) (b .write-place .ensures .0),
+      writing-part _ _ _ _ _ _ _ _ _ _ (w .loop .inv .1) (row-rest (a .m .now) (a .x) (w .loop .y) (s .pre .1) (s .pre .2) (search needs))
+          (b .write-place .ensures .1) (b .write-place .ensures .0),
     )
 
 same-length : tie.Need-same-length Inv-loop μ-loop

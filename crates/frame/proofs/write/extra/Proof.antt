@@ -24,7 +24,14 @@ column-count-requires c κs = search needs
 cast-t11 : tie.Need-cast-t11
 cast-t11 c =
     let s = c .before .before .before .before in
-    record { fits = omega (arith, c .column-count .ensures, only-count (entry (s .args .m .now)) (s .args .a .to) (s .pre .2), count-le (only (s .args .a .to) (entry (s .args .m .now)))) }
+    record {
+      fits = omega (
+        arith,
+        c .column-count .ensures,
+        only-count (entry (s .args .m .now)) (s .args .a .to) (s .pre .2),
+        count-le (only (s .args .a .to) (entry (s .args .m .now))),
+      );
+    }
 
 write-requires : tie.Need-write-requires
 write-requires c κs = search needs
@@ -69,10 +76,13 @@ returns c =
     let x = extraMessage (a .a .from) (a .a .to) (a .a .n) (a .a .cap) m in
     let e = length-entriesOf (only (a .a .to) m) in
     let o = only-count m (a .a .to) (s .pre .2) in
-    let head = b .write .ensures ∙ ap (λ (y : Header). put (a .out .now) (a .at) (headerBytes y)) (header-extra (a .a) m (b .before .column-count .result) (s .pre .2) (b .before .column-count .ensures)) in
-    let body = put-front (a .out .now) (a .at) x _ _ _ (d .write-column .result) head (d .write-column .ensures .1) (d .write-column .ensures .0) (sym (put-nil _ _)) in (
+    let head = b .write .ensures ∙ ap (λ (y : Header). put (a .out .now) (a .at) (headerBytes y))
+    (header-extra (a .a) m (b .before .column-count .result) (s .pre .2) (b .before .column-count .ensures)) in
+    let body = put-front (a .out .now) (a .at) x _ _ _ (d .write-column .result) head (d .write-column .ensures .1)
+    (d .write-column .ensures .0) (sym (put-nil _ _)) in (
       omega (arith, h .write-trailer .ensures .0, d .write-column .ensures .0),
-      put-frame (a .out .now) (a .at) x _ _ (d .write-column .result) body (omega (arith, front-length x, d .write-column .ensures .0)) (omega (arith, s .pre .0, d .write-column .ensures .0)) (h .write-trailer .ensures .1),
+      put-frame (a .out .now) (a .at) x _ _ (d .write-column .result) body (omega (arith, front-length x, d .write-column .ensures .0))
+          (omega (arith, s .pre .0, d .write-column .ensures .0)) (h .write-trailer .ensures .1),
     )
 
 pub extra-spec : {M : Type 1} → statement M

@@ -83,10 +83,12 @@ returns c =
     let a = s .args in
     let m = userMessage (a .a .from) (a .a .to) (a .a .n) (a .a .cap) (entry (a .m .now)) (a .body .now) in
     let e = length-entriesOf (entry (a .m .now)) in
-    let head = b .write .ensures ∙ ap (λ (x : Header). put (a .out .now) (a .at) (headerBytes x)) (header-user (a .a) (entry (a .m .now)) (a .body .now) (b .before .before .count .result) (b .before .before .count .ensures)) in
+    let head = b .write .ensures ∙ ap (λ (x : Header). put (a .out .now) (a .at) (headerBytes x))
+    (header-user (a .a) (entry (a .m .now)) (a .body .now) (b .before .before .count .result) (b .before .before .count .ensures)) in
     let body = put-front (a .out .now) (a .at) m _ _ _ (d .write2 .result) head (d .write2 .ensures .1) (d .write2 .ensures .0) (f .copy .ensures) in (
       omega (arith, h .write-trailer .ensures .0, d .write2 .ensures .0),
-      put-frame (a .out .now) (a .at) m _ _ (d .write2 .result + length (a .body .now)) body (omega (arith, front-length m, d .write2 .ensures .0)) (omega (arith, s .pre .0, d .write2 .ensures .0)) (h .write-trailer .ensures .1),
+      put-frame (a .out .now) (a .at) m _ _ (d .write2 .result + length (a .body .now)) body (omega (arith, front-length m, d .write2 .ensures .0))
+          (omega (arith, s .pre .0, d .write2 .ensures .0)) (h .write-trailer .ensures .1),
     )
 
 pub user-spec : {M : Type 1} → statement M

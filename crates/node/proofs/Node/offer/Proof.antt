@@ -18,11 +18,14 @@ kept : (c : tie.Else1) → RecordPassed (start (c .before) .args .t1) (start (c 
 kept c = record-passed _ _ _ _ (sym (c .before .record-refusal .ensures) ∙ c .if1 .left)
 
 -- the frame is sound once its checks are passed
-sound : (c : tie.Else2) → frameRefusal (start (c .before .before .before) .args .t1 .n) (start (c .before .before .before) .args .t1 .cap) (start (c .before .before .before) .args .frame .now) ≡ 0
+sound : (c : tie.Else2) → frameRefusal (start (c .before .before .before) .args .t1 .n) (start (c .before .before .before) .args .t1 .cap)
+    (start (c .before .before .before) .args .frame .now) ≡ 0
 sound c = sym (c .before .refusal .ensures) ∙ c .if2 .left
 
 -- there is a free slot once no check is met
-free : (c : tie.Else3) → Holdable (start (c .before .before .before .before .before .before .before .before .before .before) .args .t1) (start (c .before .before .before .before .before .before .before .before .before .before) .args .frame .now) (start (c .before .before .before .before .before .before .before .before .before .before) .args .queue .now)
+free : (c : tie.Else3) → Holdable (start (c .before .before .before .before .before .before .before .before .before .before) .args .t1)
+    (start (c .before .before .before .before .before .before .before .before .before .before) .args .frame .now)
+    (start (c .before .before .before .before .before .before .before .before .before .before) .args .queue .now)
 free c =
     let v = c .before .before in
     let f = v .before .before .before .before .before in
@@ -38,7 +41,8 @@ same-length c = search needs
 returns : tie.Need-returns
 returns c =
     let s = start (c .before) in
-    offer-refused (s .args .t1) (s .args .frame .now) (s .args .queue .now) _ (offer-record (s .args .t1) (s .args .frame .now) (s .args .queue .now) _ (c .before .record-refusal .ensures) (c .if1 .taken)) (c .if1 .taken)
+    offer-refused (s .args .t1) (s .args .frame .now) (s .args .queue .now) _
+    (offer-record (s .args .t1) (s .args .frame .now) (s .args .queue .now) _ (c .before .record-refusal .ensures) (c .if1 .taken)) (c .if1 .taken)
 
 refusal-requires : tie.Need-refusal-requires
 refusal-requires c κs = search needs
@@ -50,7 +54,8 @@ returns-2 : tie.Need-returns-2
 returns-2 c =
     let i = c .before .before in
     let s = start (i .before) in
-    offer-refused (s .args .t1) (s .args .frame .now) (s .args .queue .now) _ (offer-frame (s .args .t1) (s .args .frame .now) (s .args .queue .now) (kept i) _ (c .before .refusal .ensures) (c .if2 .taken)) (c .if2 .taken)
+    offer-refused (s .args .t1) (s .args .frame .now) (s .args .queue .now) _
+    (offer-frame (s .args .t1) (s .args .frame .now) (s .args .queue .now) (kept i) _ (c .before .refusal .ensures) (c .if2 .taken)) (c .if2 .taken)
 
 cast-hold-refusal : tie.Need-cast-hold-refusal
 cast-hold-refusal c = search needs
@@ -74,7 +79,8 @@ returns-3 c =
     let i = f .before .before in
     let s = start (i .before) in
     let r = s .args .t1 in
-    offer-refused r (s .args .frame .now) (s .args .queue .now) _ (v .hold-refusal .ensures (r .n) (r .cap) .0 ∙ sym (offer-hold r (s .args .frame .now) (s .args .queue .now) (kept i) (sound f))) (c .if3 .taken)
+    offer-refused r (s .args .frame .now) (s .args .queue .now) _
+    (v .hold-refusal .ensures (r .n) (r .cap) .0 ∙ sym (offer-hold r (s .args .frame .now) (s .args .queue .now) (kept i) (sound f))) (c .if3 .taken)
 
 cast-hold : tie.Need-cast-hold
 cast-hold c = search needs
@@ -104,7 +110,8 @@ returns-4 c =
     let r = s .args .t1 in
     let w = v .hold-refusal .ensures (r .n) (r .cap) in
     offer-leaves r (s .args .frame .now) (s .args .queue .now) _ _ _ (c .before .before .hold .ensures) (w .1 (e .if3 .left)) refl
-    ∙ offer-accepted r (s .args .frame .now) (s .args .queue .now) (offer-hold r (s .args .frame .now) (s .args .queue .now) (kept i) (sound f) ∙ sym (w .0) ∙ e .if3 .left)
+    ∙ offer-accepted r (s .args .frame .now) (s .args .queue .now)
+    (offer-hold r (s .args .frame .now) (s .args .queue .now) (kept i) (sound f) ∙ sym (w .0) ∙ e .if3 .left)
 
 pub offer-spec : {M : Type 1} → statement M
 offer-spec =

@@ -14,7 +14,8 @@ abbrev start : tie.After-refusal → tie.Start
 start c = c .before .before .before .before .before .before
 
 -- what holds once no check is met
-passed-checks : (c : tie.Else1) → Sendable (start (c .before) .args .t1) (start (c .before) .args .to) (length (start (c .before) .args .body .now)) (length (start (c .before) .args .out .now))
+passed-checks : (c : tie.Else1) → Sendable (start (c .before) .args .t1) (start (c .before) .args .to) (length (start (c .before) .args .body .now))
+    (length (start (c .before) .args .out .now))
 passed-checks c = sendable _ _ _ _ (sym (c .before .refusal .ensures) ∙ c .if1 .left)
 
 refusal-requires : tie.Need-refusal-requires
@@ -77,7 +78,8 @@ returns-2 c =
     let s = start (i .before) in
     let me : s .args .t1 .me < 12 = omega (arith, k .sound .range .below, k .sound .range .atMost12) in
     let to : s .args .to < 12 = omega (arith, k .destination, k .sound .range .atMost12) in
-    send-leaves (s .args .t1) (s .args .to) (s .args .body .now) (s .args .out .now) me to _ _ _ _ _ _ _ (u .user .ensures .1) (u .user .ensures .0) (l .clear-column .ensures) (t .trim .ensures)
+    send-leaves (s .args .t1) (s .args .to) (s .args .body .now) (s .args .out .now) me to _ _ _ _ _ _ _ (u .user .ensures .1) (u .user .ensures .0)
+    (l .clear-column .ensures) (t .trim .ensures)
     ∙ send-accepted (s .args .t1) (s .args .to) (s .args .body .now) (s .args .out .now) (sym (i .before .refusal .ensures) ∙ i .if1 .left)
 
 pub send-spec : {M : Type 1} → statement M

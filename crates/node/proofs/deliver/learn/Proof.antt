@@ -9,7 +9,9 @@ use Rattle.node.proofs.deliver.learn.Statement.{statement}
 use Rattle.node.proofs.deliver.learn.Tie as tie
 
 returns : tie.Need-returns
-returns c = let a = c .before .before .before in learn-extra (a .args .kind) (a .args .me) (a .args .n) (a .args .cap) (a .args .m .now) (a .args .out .now) _ (c .if1 .taken) (a .pre .0)
+returns c =
+    let a = c .before .before .before in
+    learn-extra (a .args .kind) (a .args .me) (a .args .n) (a .args .cap) (a .args .m .now) (a .args .out .now) _ (c .if1 .taken) (a .pre .0)
 
 merge-requires : tie.Need-merge-requires
 merge-requires c κs = search needs
@@ -17,8 +19,12 @@ merge-requires c κs = search needs
 trim-requires : tie.Need-trim-requires
 trim-requires c κs =
     let g = c .before .before in
-    let a = g .before .before .before .before .before in
-    (ap length (g .merge .ensures) ∙ length-flat _, a .pre .2, omega (arith, a .pre .3), merged-limit (a .args .s .now) (a .args .me) (a .args .m .now) _ (a .pre .1) (a .pre .4) (g .merge .ensures))
+    let a = g .before .before .before .before .before in (
+      ap length (g .merge .ensures) ∙ length-flat _,
+      a .pre .2,
+      omega (arith, a .pre .3),
+      merged-limit (a .args .s .now) (a .args .me) (a .args .m .now) _ (a .pre .1) (a .pre .4) (g .merge .ensures),
+    )
 
 same-length : tie.Need-same-length
 same-length c = search needs
@@ -29,7 +35,8 @@ returns-2 c =
     let g = t .before .before .before in
     let i = g .before .before in
     let a = i .before .before .before in
-    learn-user (a .args .s .now) (a .args .kind) (a .args .me) (a .args .n) (a .args .cap) (a .args .m .now) _ _ (a .args .out .now) _ _ _ (a .pre .1) (i .if1 .left) (g .merge .ensures) (t .trim .ensures)
+    learn-user (a .args .s .now) (a .args .kind) (a .args .me) (a .args .n) (a .args .cap) (a .args .m .now) _ _ (a .args .out .now) _ _ _ (a .pre .1)
+    (i .if1 .left) (g .merge .ensures) (t .trim .ensures)
 
 pub learn-spec : {M : Type 1} → statement M
 learn-spec = tie.close (tie.spec returns merge-requires trim-requires same-length returns-2)

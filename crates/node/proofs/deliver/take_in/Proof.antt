@@ -68,7 +68,8 @@ returns c =
     let b = l .before .before .before .before .before in
     let d = b .before .before .before .before .before in
     let a = d .before .before .before .before in
-    taken-in (a .args .s .now) (d .read .result) (a .args .me) (a .args .n) (a .args .cap) (a .args .m .now) _ (a .args .out .now) _ (a .args .body .now) _ (a .args .tried) _ _ _ (a .pre .1) (d .read .ensures) (k .number .ensures) (l .learn .ensures) (b .copy .ensures)
+    taken-in (a .args .s .now) (d .read .result) (a .args .me) (a .args .n) (a .args .cap) (a .args .m .now) _ (a .args .out .now) _ (a .args .body .now) _
+    (a .args .tried) _ _ _ (a .pre .1) (d .read .ensures) (k .number .ensures) (l .learn .ensures) (b .copy .ensures)
 
 pub take-in-spec : {M : Type 1} → statement M
 take-in-spec =

@@ -57,7 +57,8 @@ returns-5 c =
     let s = i .before .before .before .before in
     let a = sym (i .before .refusal .ensures n cap _) ∙ i .if1 .left in
     let l = length-messages (s .args .held) (s .args .queue .now) in (
-      sym (hold-ready _ _ a (sym (j .before .alike .ensures) ∙ j .if2 .left) (λ e. f .if3 .left (sym l ∙ e)) (sym (f .before .deliverable .ensures n cap _ _) ∙ c .if5 .taken)),
+      sym (hold-ready _ _ a (sym (j .before .alike .ensures) ∙ j .if2 .left) (λ e. f .if3 .left (sym l ∙ e))
+          (sym (f .before .deliverable .ensures n cap _ _) ∙ c .if5 .taken)),
       λ _. f .before .deliverable .ensures n cap _ _,
     )
 
@@ -70,7 +71,8 @@ returns-6 c =
     let s = i .before .before .before .before in
     let a = sym (i .before .refusal .ensures n cap _) ∙ i .if1 .left in
     let l = length-messages (s .args .held) (s .args .queue .now) in (
-      sym (hold-waits _ _ a (sym (j .before .alike .ensures) ∙ j .if2 .left) (l ∙ c .before .if4 .left) (sym (f .before .deliverable .ensures n cap _ _) ∙ c .if5 .left)),
+      sym (hold-waits _ _ a (sym (j .before .alike .ensures) ∙ j .if2 .left) (l ∙ c .before .if4 .left)
+          (sym (f .before .deliverable .ensures n cap _ _) ∙ c .if5 .left)),
       λ z. absurd (omega arith),
     )
 

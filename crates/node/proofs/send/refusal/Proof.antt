@@ -41,7 +41,8 @@ returns-4 c =
     let l = c .before in
     let e = l .before .before in
     let b = e .before in
-    sym (send-6 _ _ _ _ (sym (b .before .broken .ensures) ∙ b .if1 .left) (e .if2 .left) (sym (l .before .at-limit .ensures _ refl refl refl) ∙ l .if3 .left) (to-me _ _ _ (c .if4 .taken)))
+    sym (send-6 _ _ _ _ (sym (b .before .broken .ensures) ∙ b .if1 .left) (e .if2 .left) (sym (l .before .at-limit .ensures _ refl refl refl)
+    ∙ l .if3 .left) (to-me _ _ _ (c .if4 .taken)))
 
 returns-5 : tie.Need-returns-5
 unfolding brokenRecord
@@ -50,7 +51,8 @@ returns-5 c =
     let l = f .before in
     let e = l .before .before in
     let b = e .before in
-    sym (send-6 _ _ _ _ (sym (b .before .broken .ensures) ∙ b .if1 .left) (e .if2 .left) (sym (l .before .at-limit .ensures _ refl refl refl) ∙ l .if3 .left) (to-far _ _ _ (c .if5 .taken)))
+    sym (send-6 _ _ _ _ (sym (b .before .broken .ensures) ∙ b .if1 .left) (e .if2 .left) (sym (l .before .at-limit .ensures _ refl refl refl)
+    ∙ l .if3 .left) (to-far _ _ _ (c .if5 .taken)))
 
 returns-6 : tie.Need-returns-6
 unfolding brokenRecord
@@ -59,7 +61,8 @@ returns-6 c =
     let l = f .before in
     let e = l .before .before in
     let b = e .before in
-    sym (send-7 _ _ _ _ (sym (b .before .broken .ensures) ∙ b .if1 .left) (e .if2 .left) (sym (l .before .at-limit .ensures _ refl refl refl) ∙ l .if3 .left) (to-other _ _ _ (f .if4 .left) (c .before .if5 .left)) (c .if6 .taken))
+    sym (send-7 _ _ _ _ (sym (b .before .broken .ensures) ∙ b .if1 .left) (e .if2 .left) (sym (l .before .at-limit .ensures _ refl refl refl) ∙ l .if3 .left)
+    (to-other _ _ _ (f .if4 .left) (c .before .if5 .left)) (c .if6 .taken))
 
 returns-7 : tie.Need-returns-7
 unfolding brokenRecord
@@ -68,7 +71,8 @@ returns-7 c =
     let l = f .before in
     let e = l .before .before in
     let b = e .before in
-    sym (send-0 _ _ _ _ (sym (b .before .broken .ensures) ∙ b .if1 .left) (e .if2 .left) (sym (l .before .at-limit .ensures _ refl refl refl) ∙ l .if3 .left) (to-other _ _ _ (f .if4 .left) (c .before .if5 .left)) (c .if6 .left))
+    sym (send-0 _ _ _ _ (sym (b .before .broken .ensures) ∙ b .if1 .left) (e .if2 .left) (sym (l .before .at-limit .ensures _ refl refl refl) ∙ l .if3 .left)
+    (to-other _ _ _ (f .if4 .left) (c .before .if5 .left)) (c .if6 .left))
 
 pub refusal-spec : {M : Type 1} → statement M
 refusal-spec =

@@ -17,8 +17,12 @@ conclude-requires c κs =
     let p = a .pre in
     let d = p .1 in
     let t = s .deliver .ensures (d .n) (d .cap) (d .k) (d .world) (d .more) (d .holds) in
-    let f = deliver-facts (d .n) maxIssues (d .world) (a .args .j) (omega (arith, d .holds .below)) (p .0) in
-    (few-told _ _ _ _ _ _ _ (d .holds) _ _ f _ _ _ t, small-told _ _ _ _ _ _ _ (d .holds) _ _ f _ _ _ t, logged _ _ _ _ _ _ _ (d .holds) _ _ f _ _ _ t, enough _ _ _ _ _ _ _ (d .holds) _ _ f _ _ _ t _ (a .args .out .now) (p .2))
+    let f = deliver-facts (d .n) maxIssues (d .world) (a .args .j) (omega (arith, d .holds .below)) (p .0) in (
+      few-told _ _ _ _ _ _ _ (d .holds) _ _ f _ _ _ t,
+      small-told _ _ _ _ _ _ _ (d .holds) _ _ f _ _ _ t,
+      logged _ _ _ _ _ _ _ (d .holds) _ _ f _ _ _ t,
+      enough _ _ _ _ _ _ _ (d .holds) _ _ f _ _ _ t _ (a .args .out .now) (p .2),
+    )
 
 same-length : tie.Need-same-length
 same-length c = search needs
@@ -38,8 +42,10 @@ returns c =
     let d = p .1 in
     let t = s .deliver .ensures (d .n) (d .cap) (d .k) (d .world) (d .more) (d .holds) in
     let r = c .before .before .conclude .ensures in (
-      bounded _ _ _ _ _ _ _ (d .holds) _ _ (deliver-facts (d .n) maxIssues (d .world) (a .args .j) (omega (arith, d .holds .below)) (p .0)) _ _ _ t (c .before .before .conclude .result) _ (r .0) (r .2),
-      λ n cap k z short st. took-step n cap k z _ _ _ _ (st .world) (st .counters) _ _ (deliver-facts n maxIssues (z .world) (a .args .j) (omega (arith, st .world .below)) (p .0)) _ _ _ (s .deliver .ensures n cap k (z .world) short (st .world)) _ _ _ _ (r .0) (r .1) (r .3),
+      bounded _ _ _ _ _ _ _ (d .holds) _ _ (deliver-facts (d .n) maxIssues (d .world) (a .args .j) (omega (arith, d .holds .below)) (p .0)) _ _ _ t
+          (c .before .before .conclude .result) _ (r .0) (r .2),
+      λ n cap k z short st. took-step n cap k z _ _ _ _ (st .world) (st .counters) _ _ (deliver-facts n maxIssues (z .world) (a .args .j)
+          (omega (arith, st .world .below)) (p .0)) _ _ _ (s .deliver .ensures n cap k (z .world) short (st .world)) _ _ _ _ (r .0) (r .1) (r .3),
     )
 
 pub deliver-spec : {M : Type 1} → statement M

@@ -16,8 +16,12 @@ conclude-requires c κs =
     let p = a .pre in
     let d = p .0 .1 in
     let t = s .send .ensures (d .n) (d .cap) (d .k) (d .world) (p .0 .0) (d .more) (d .holds) in
-    let f = send-facts (a .args .i) (d .n) maxIssues (d .world) (a .args .i) (a .args .j) in
-    (few-told _ _ _ _ _ _ _ (d .holds) _ _ f _ _ _ t, small-told _ _ _ _ _ _ _ (d .holds) _ _ f _ _ _ t, logged _ _ _ _ _ _ _ (d .holds) _ _ f _ _ _ t, enough _ _ _ _ _ _ _ (d .holds) _ _ f _ _ _ t _ (a .args .out .now) (p .1))
+    let f = send-facts (a .args .i) (d .n) maxIssues (d .world) (a .args .i) (a .args .j) in (
+      few-told _ _ _ _ _ _ _ (d .holds) _ _ f _ _ _ t,
+      small-told _ _ _ _ _ _ _ (d .holds) _ _ f _ _ _ t,
+      logged _ _ _ _ _ _ _ (d .holds) _ _ f _ _ _ t,
+      enough _ _ _ _ _ _ _ (d .holds) _ _ f _ _ _ t _ (a .args .out .now) (p .1),
+    )
 
 same-length : tie.Need-same-length
 same-length c = search needs
@@ -34,8 +38,10 @@ returns c =
     let d = p .0 .1 in
     let t = s .send .ensures (d .n) (d .cap) (d .k) (d .world) (p .0 .0) (d .more) (d .holds) in
     let r = c .before .before .conclude .ensures in (
-      bounded _ _ _ _ _ _ _ (d .holds) _ _ (send-facts (a .args .i) (d .n) maxIssues (d .world) (a .args .i) (a .args .j)) _ _ _ t (c .before .before .conclude .result) _ (r .0) (r .2),
-      λ n cap k z q short st. took-step n cap k z _ _ q _ (st .world) (st .counters) _ _ (send-facts (a .args .i) n maxIssues (z .world) (a .args .i) (a .args .j)) _ _ _ (s .send .ensures n cap k (z .world) q short (st .world)) _ _ _ _ (r .0) (r .1) (r .3),
+      bounded _ _ _ _ _ _ _ (d .holds) _ _ (send-facts (a .args .i) (d .n) maxIssues (d .world) (a .args .i) (a .args .j)) _ _ _ t
+          (c .before .before .conclude .result) _ (r .0) (r .2),
+      λ n cap k z q short st. took-step n cap k z _ _ q _ (st .world) (st .counters) _ _ (send-facts (a .args .i) n maxIssues (z .world) (a .args .i)
+          (a .args .j)) _ _ _ (s .send .ensures n cap k (z .world) q short (st .world)) _ _ _ _ (r .0) (r .1) (r .3),
     )
 
 pub send-spec : {M : Type 1} → statement M

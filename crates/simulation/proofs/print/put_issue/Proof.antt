@@ -27,7 +27,10 @@ put-row-requires : tie.Need-put-row-requires
 put-row-requires c κs =
     let w = c .before .before .before .before .before in
     let a = w .before .before .args in
-    omega (arith, issue-numbers (w .kind-letter .result) (a .issue) (a .h .from) (a .h .to) (a .h .e) (search needs) (search needs) (search needs) (search needs))
+    omega (
+      arith,
+      issue-numbers (w .kind-letter .result) (a .issue) (a .h .from) (a .h .to) (a .h .e) (search needs) (search needs) (search needs) (search needs),
+    )
 
 same-length : tie.Need-same-length
 same-length c = search needs
@@ -37,7 +40,8 @@ returns c =
     let r = c .before .before .put-row .ensures in
     let w = c .before .before .before .before .before .before .before .before in
     let a = w .before .before .args in
-    header-printed _ _ _ _ _ _ _ (w .kind-letter .ensures) (issue-numbers (w .kind-letter .result) (a .issue) (a .h .from) (a .h .to) (a .h .e) (search needs) (search needs) (search needs) (search needs)) (r .0) (r .1)
+    header-printed _ _ _ _ _ _ _ (w .kind-letter .ensures) (issue-numbers (w .kind-letter .result) (a .issue) (a .h .from) (a .h .to) (a .h .e) (search needs)
+    (search needs) (search needs) (search needs)) (r .0) (r .1)
 
 pub put-issue-spec : {M : Type 1} → statement M
 put-issue-spec =

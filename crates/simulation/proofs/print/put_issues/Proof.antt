@@ -29,7 +29,8 @@ inside : (c : tie.In-loop Inv-loop μ-loop) → c .before .loop .next + 8 ≤ le
 inside c =
     let w = c .before in
     let p = w .before .before .before .pre .0 in
-    log-room (p .frames) _ (w .loop .i) (w .loop .next) (p .log .begins) (omega (arith, p .log .whole, c .loop-test .taken)) (w .loop .inv .4 (p .frames) (p .log) .here)
+    log-room (p .frames) _ (w .loop .i) (w .loop .next) (p .log .begins) (omega (arith, p .log .whole, c .loop-test .taken))
+    (w .loop .inv .4 (p .frames) (p .log) .here)
 
 sub-read : tie.Need-sub-read Inv-loop μ-loop
 sub-read c = omega (arith, inside c)
@@ -73,7 +74,8 @@ loop-again c =
       λ f g.
           let s = w .loop .inv .4 f g in
           let part = log-part f _ (w .loop .i) (w .loop .next) (c .frame-end .result) (g .begins) (omega (arith, g .whole)) (s .here) (c .frame-end .ensures) in
-          issuing-goes _ _ f _ _ _ _ (w .loop .i) _ _ _ _ s (omega (arith, g .whole)) (h ∙ ap header (rest-lent _ (w .loop .next)) ∙ part .head) (part .next) (r .1 .0) (r .1 .1),
+          issuing-goes _ _ f _ _ _ _ (w .loop .i) _ _ _ _ s (omega (arith, g .whole))
+          (h ∙ ap header (rest-lent _ (w .loop .next)) ∙ part .head) (part .next) (r .1 .0) (r .1 .1),
     )
 
 same-length : tie.Need-same-length Inv-loop μ-loop

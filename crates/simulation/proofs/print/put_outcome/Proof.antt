@@ -1,6 +1,7 @@
 -- By the outcome, one line, or the lines of the frames issued. Assumes nothing.
 use native.Mathlib.Omega.{arith}
-use Rattle.simulation.proofs.Outcomes.{shown, shown-delivered, printed-refused, printed-sent, printed-held, printed-nothing, small-held, small-nothing, small-delivered}
+use Rattle.simulation.proofs.Outcomes.{shown, shown-delivered, printed-refused, printed-sent, printed-held}
+use Rattle.simulation.proofs.Outcomes.{printed-nothing, small-held, small-nothing, small-delivered}
 use Rattle.simulation.proofs.Rows.{two-numbers, three-numbers}
 use borrow.Author.Needs.{needs}
 use Rattle.simulation.proofs.print.put_outcome.Statement.{statement}
@@ -53,8 +54,10 @@ put-issues-requires-2 c κs =
     let w = c .before .before .before .before .before .before in
     let a = w .before .before .before .before in
     let q = small-delivered _ _ (a .pre .0) _ _ _ (w .o4 .given .1) in
-    let r = c .before .before .before .put-three in
-    (a .pre .1, omega (arith, r .ensures .0, r .kept .0, three-numbers 68 (a .args .x) (w .o4 .given .0 .0) (w .o4 .given .0 .1 .0) (q .0) (q .1) (q .2), a .pre .2))
+    let r = c .before .before .before .put-three in (
+      a .pre .1,
+      omega (arith, r .ensures .0, r .kept .0, three-numbers 68 (a .args .x) (w .o4 .given .0 .0) (w .o4 .given .0 .1 .0) (q .0) (q .1) (q .2), a .pre .2),
+    )
 
 same-length : tie.Need-same-length
 same-length c = search needs
@@ -83,8 +86,10 @@ returns-3 c =
     let w = c .before .before .before .before .before in
     let a = w .before .before .before .before in
     let r = c .before .before .put-two .ensures in
-    let q = small-held _ _ (a .pre .0) _ _ (w .o2 .given .1) in
-    (omega (arith, r .0, two-numbers 65 (a .args .x) (w .o2 .given .0 .0) (q .0) (q .1)), λ f g. shown _ _ _ _ _ _ (printed-held _ _ _ _ _ (w .o2 .given .1)) (r .0) (r .1))
+    let q = small-held _ _ (a .pre .0) _ _ (w .o2 .given .1) in (
+      omega (arith, r .0, two-numbers 65 (a .args .x) (w .o2 .given .0 .0) (q .0) (q .1)),
+      λ f g. shown _ _ _ _ _ _ (printed-held _ _ _ _ _ (w .o2 .given .1)) (r .0) (r .1),
+    )
 
 same-length-4 : tie.Need-same-length-4
 same-length-4 c = search needs
@@ -94,8 +99,10 @@ returns-4 c =
     let w = c .before .before .before .before .before in
     let a = w .before .before .before .before in
     let r = c .before .before .put-two2 .ensures in
-    let q = small-nothing _ _ (a .pre .0) _ (w .o3 .given .1) in
-    (omega (arith, r .0, two-numbers 78 (a .args .x) (w .o3 .given .0 .0) (q .0) (q .1)), λ f g. shown _ _ _ _ _ _ (printed-nothing _ _ _ _ (w .o3 .given .1)) (r .0) (r .1))
+    let q = small-nothing _ _ (a .pre .0) _ (w .o3 .given .1) in (
+      omega (arith, r .0, two-numbers 78 (a .args .x) (w .o3 .given .0 .0) (q .0) (q .1)),
+      λ f g. shown _ _ _ _ _ _ (printed-nothing _ _ _ _ (w .o3 .given .1)) (r .0) (r .1),
+    )
 
 same-length-5 : tie.Need-same-length-5
 same-length-5 c = search needs

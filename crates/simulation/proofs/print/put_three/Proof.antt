@@ -18,7 +18,9 @@ slice-aggregate-put-row : tie.Need-slice-aggregate-put-row
 slice-aggregate-put-row c = search needs
 
 put-row-requires : tie.Need-put-row-requires
-put-row-requires c κs = let a = c .before .before .before .args in omega (arith, three-numbers (a .letter) (a .a) (a .b) (a .c) (omega arith) (omega arith) (omega arith))
+put-row-requires c κs =
+    let a = c .before .before .before .args in
+    omega (arith, three-numbers (a .letter) (a .a) (a .b) (a .c) (omega arith) (omega arith) (omega arith))
 
 same-length : tie.Need-same-length
 same-length c = search needs

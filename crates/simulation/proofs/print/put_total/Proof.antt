@@ -14,7 +14,9 @@ slice-aggregate-put-row c = search needs
 
 -- five numbers of 32 bits
 most : (c : tie.After-slice-known) → let t = c .before .args .t in length (row 84 (t .user ∷ t .extras ∷ t .delivered ∷ t .delays ∷ t .share ∷ [])) ≤ 57
-most c = let t = c .before .args .t in total-most 84 (t .user) (t .extras) (t .delivered) (t .delays) (t .share) (search needs) (search needs) (search needs) (search needs) (search needs)
+most c =
+    let t = c .before .args .t in
+    total-most 84 (t .user) (t .extras) (t .delivered) (t .delays) (t .share) (search needs) (search needs) (search needs) (search needs) (search needs)
 
 put-row-requires : tie.Need-put-row-requires
 put-row-requires c κs = omega (arith, most (c .before .before))

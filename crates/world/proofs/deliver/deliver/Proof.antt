@@ -25,129 +25,188 @@ wide : (k : ℕ) → queueSize * k + queueSize - queueSize * k ≡ queueSize
 wide k = omega arith
 
 -- the issues that are left, for any world that is stored
-left : (c : tie.After-known-told3) (n cap k : ℕ) (v : World) → Holds n cap (c .before .before .before .before .before .before .before .before .before .before .before .before .before .before .before .before .args .limit) k v (c .before .before .before .before .before .before .before .before .before .before .before .before .before .before .before .before .args .t1) (c .before .before .before .before .before .before .before .before .before .before .before .before .before .before .before .before .args .queues .now) (c .before .before .before .before .before .before .before .before .before .before .before .before .before .before .before .before .args .log .now) → length (v .log) + n ≤ c .before .before .before .before .before .before .before .before .before .before .before .before .before .before .before .before .args .limit
-left c n cap k v h = omega (arith, c .before .before .before .before .before .before .before .before .before .before .before .before .if2 .left, h .nodes, h .issued)
+left : (c : tie.After-known-told3) (n cap k : ℕ) (v : World) → Holds n cap
+    (c .before .before .before .before .before .before .before .before .before .before .before .before .before .before .before .before .args .limit) k v
+    (c .before .before .before .before .before .before .before .before .before .before .before .before .before .before .before .before .args .t1)
+    (c .before .before .before .before .before .before .before .before .before .before .before .before .before .before .before .before .args .queues .now)
+    (c .before .before .before .before .before .before .before .before .before .before .before .before .before .before .before .before .args .log .now)
+    → length (v .log) + n
+    ≤ c .before .before .before .before .before .before .before .before .before .before .before .before .before .before .before .before .args .limit
+left c n cap k v h =
+    omega (arith, c .before .before .before .before .before .before .before .before .before .before .before .before .if2 .left, h .nodes, h .issued)
 
 -- what the delivery leaves, for the world that is asked for
 few : (c : tie.After-known-told3) → c .before .answer3 .given .0 .0 .extras ≤ 12
 unfolding zeros
 few c =
     let x = c .before .before .before .before .before .before .before .before .before .before .before .before .before .before .before .before .pre .1 in
-    delivered-few (x .n) (x .cap) _ (x .k) (x .world) _ _ _ (x .holds) (x .more) _ (omega (arith, x .holds .nodes)) (left c _ _ _ _ (x .holds)) _ refl _ (wide (c .before .before .before .before .before .before .before .before .before .before .before .before .before .before .before .before .args .at)) _ _ _ _ (c .before .before .before .before .before .before .before .deliver .ensures) (search needs) _ (c .before .answer3 .given .1)
+    delivered-few (x .n) (x .cap) _ (x .k) (x .world) _ _ _ (x .holds) (x .more) _ (omega (arith, x .holds .nodes)) (left c _ _ _ _ (x .holds)) _ refl _
+    (wide (c .before .before .before .before .before .before .before .before .before .before .before .before .before .before .before .before .args .at)) _ _ _ _
+    (c .before .before .before .before .before .before .before .deliver .ensures) (search needs) _ (c .before .answer3 .given .1)
 
--- src/deliver.rt:21:9
 returns : tie.Need-returns
 returns c = λ n cap k v short h. deliver-17 n cap _ k v _ _ _ h short _ (stops-node n _ _ v (omega (arith, h .nodes)))
 
--- src/deliver.rt:23:16
 add-if2 : tie.Need-add-if2
 add-if2 c = search needs
 
--- src/deliver.rt:24:9
 returns-2 : tie.Need-returns-2
-returns-2 c = λ n cap k v short h. deliver-17 n cap _ k v _ _ _ h short _ (stops-issues n _ _ v (omega (arith, h .nodes, h .issued)) (omega (arith, h .range .atLeast2)))
+returns-2 c =
+    λ n cap k v short h. deliver-17 n cap _ k v _ _ _ h short _ (stops-issues n _ _ v (omega (arith, h .nodes, h .issued)) (omega (arith, h .range .atLeast2)))
 
--- src/deliver.rt:26:18
 mul-record : tie.Need-mul-record
 mul-record c = search needs
 
--- src/deliver.rt:26:18
 element-copy-out-record : tie.Need-element-copy-out-record
 element-copy-out-record c = search needs
 
--- src/deliver.rt:27:17
 mul-first : tie.Need-mul-first
 mul-first c = search needs
 
--- src/deliver.rt:28:16
 add-last : tie.Need-add-last
 add-last c = search needs
 
--- src/deliver.rt:31:31
 sub-deliver : tie.Need-sub-deliver
 sub-deliver c = search needs
 
--- src/deliver.rt:31:31
 part-deliver-start : tie.Need-part-deliver-start
 part-deliver-start c = search needs
 
--- src/deliver.rt:31:31
 part-deliver-end : tie.Need-part-deliver-end
 part-deliver-end c = search needs
 
--- src/deliver.rt:31:57
 slice-aggregate-deliver : tie.Need-slice-aggregate-deliver
 slice-aggregate-deliver c = search needs
 
--- src/deliver.rt:31:67
 slice-aggregate-deliver-2 : tie.Need-slice-aggregate-deliver-2
 slice-aggregate-deliver-2 c = search needs
 
--- src/deliver.rt:31:9
 deliver-requires : tie.Need-deliver-requires
 deliver-requires c κs = search needs
 
--- src/deliver.rt:34:32
 enum-known-answer : tie.Need-enum-known-answer
 enum-known-answer c = search needs
 
--- src/deliver.rt:35:32
 enum-known-answer-2 : tie.Need-enum-known-answer-2
 enum-known-answer-2 c = search needs
 
--- src/deliver.rt:36:30
 enum-known-answer-3 : tie.Need-enum-known-answer-3
 enum-known-answer-3 c = search needs
 
--- src/deliver.rt:37:17
 find-requires : tie.Need-find-requires
-find-requires c κs = let x = c .before .before .before .before .before .before .before .before .before .before .before .before .before .before .before .before .before .pre .1 in begins-with (x .n) (x .cap) _ (x .k) (x .world) _ _ _ (x .holds) (omega (arith, x .more)) _ (omega (arith, x .holds .issued))
+find-requires c κs =
+    let x = c .before .before .before .before .before .before .before .before .before .before .before .before .before .before .before .before .before .pre .1 in
+    begins-with (x .n) (x .cap) _ (x .k) (x .world) _ _ _ (x .holds) (omega (arith, x .more)) _ (omega (arith, x .holds .issued))
 
--- src/deliver.rt:38:70
 array-share-prefix-out : tie.Need-array-share-prefix-out
 unfolding zeros
-array-share-prefix-out c = let x = c .before .before .before .before .before .before .before .before .before .before .before .before .before .before .before .before .before .before .before .pre .1 in delivered-inside (x .n) (x .cap) _ (x .k) (x .world) _ _ _ (x .holds) (x .more) _ (omega (arith, x .holds .nodes, c .before .before .before .before .before .before .before .before .before .before .before .before .before .before .before .before .if1 .left)) (left (c .before .before .before) _ _ _ _ (x .holds)) _ refl _ (wide (c .before .before .before .before .before .before .before .before .before .before .before .before .before .before .before .before .before .before .before .args .at)) _ _ _ _ (c .before .before .before .before .before .before .before .before .before .before .deliver .ensures) (search needs) _ (c .before .before .before .before .answer3 .given .1)
+array-share-prefix-out c =
+    let x = c .before .before .before .before .before .before .before .before .before .before .before .before .before .before .before .before .before .before
+    .before .pre .1 in
+    delivered-inside (x .n) (x .cap) _ (x .k) (x .world) _ _ _ (x .holds) (x .more) _ (omega (
+      arith,
+      x .holds .nodes,
+      c .before .before .before .before .before .before .before .before .before .before .before .before .before .before .before .before .if1 .left,
+    )) (left (c .before .before .before) _ _ _ _ (x .holds)) _ refl _
+    (wide (c .before .before .before .before .before .before .before .before .before .before .before .before .before .before .before .before .before .before
+    .before .args .at)) _ _ _ _ (c .before .before .before .before .before .before .before .before .before .before .deliver .ensures) (search needs) _
+    (c .before .before .before .before .answer3 .given .1)
 
--- src/deliver.rt:38:70
 slice-aggregate-store : tie.Need-slice-aggregate-store
 unfolding zeros
-slice-aggregate-store c = let x = c .before .before .before .before .before .before .before .before .before .before .before .before .before .before .before .before .before .before .before .before .pre .1 in sym (length-take-le _ _ (delivered-inside (x .n) (x .cap) _ (x .k) (x .world) _ _ _ (x .holds) (x .more) _ (omega (arith, x .holds .nodes, c .before .before .before .before .before .before .before .before .before .before .before .before .before .before .before .before .before .if1 .left)) (left (c .before .before .before .before) _ _ _ _ (x .holds)) _ refl _ (wide (c .before .before .before .before .before .before .before .before .before .before .before .before .before .before .before .before .before .before .before .before .args .at)) _ _ _ _ (c .before .before .before .before .before .before .before .before .before .before .before .deliver .ensures) (search needs) _ (c .before .before .before .before .before .answer3 .given .1)))
+slice-aggregate-store c =
+    let x = c .before .before .before .before .before .before .before .before .before .before .before .before .before .before .before .before .before .before
+    .before .before .pre .1 in
+    sym (length-take-le _ _ (delivered-inside (x .n) (x .cap) _ (x .k) (x .world) _ _ _ (x .holds) (x .more) _ (omega (
+      arith,
+      x .holds .nodes,
+      c .before .before .before .before .before .before .before .before .before .before .before .before .before .before .before .before .before .if1 .left,
+    )) (left (c .before .before .before .before) _ _ _ _ (x .holds)) _ refl _
+    (wide (c .before .before .before .before .before .before .before .before .before .before .before .before .before .before .before .before .before .before
+    .before .before .args .at)) _ _ _ _ (c .before .before .before .before .before .before .before .before .before .before .before .deliver .ensures)
+    (search needs) _ (c .before .before .before .before .before .answer3 .given .1)))
 
--- src/deliver.rt:38:17
 store-requires : tie.Need-store-requires
 unfolding zeros
-store-requires c κs = let x = c .before .before .before .before .before .before .before .before .before .before .before .before .before .before .before .before .before .before .before .before .pre .1 in (omega (arith, x .holds .nodes, x .holds .few, c .before .before .before .before .before .before .before .before .before .before .before .before .before .before .before .before .before .if1 .left), omega (arith, few (c .before .before .before .before), c .before .before .before .before .before .before .before .before .before .before .before .before .before .before .before .before .before .before .before .before .pre .0, left (c .before .before .before .before) _ _ _ _ (x .holds), x .holds .issued), delivered-room (x .n) (x .cap) _ (x .k) (x .world) _ _ _ (x .holds) (x .more) _ (omega (arith, x .holds .nodes, c .before .before .before .before .before .before .before .before .before .before .before .before .before .before .before .before .before .if1 .left)) (left (c .before .before .before .before) _ _ _ _ (x .holds)) _ refl _ (wide (c .before .before .before .before .before .before .before .before .before .before .before .before .before .before .before .before .before .before .before .before .args .at)) _ _ _ _ (c .before .before .before .before .before .before .before .before .before .before .before .deliver .ensures) (search needs) _ (c .before .before .before .before .before .answer3 .given .1))
+store-requires c κs =
+    let x = c .before .before .before .before .before .before .before .before .before .before .before .before .before .before .before .before .before .before
+    .before .before .pre .1 in (
+      omega (
+        arith,
+        x .holds .nodes,
+        x .holds .few,
+        c .before .before .before .before .before .before .before .before .before .before .before .before .before .before .before .before .before .if1 .left,
+      ),
+      omega (
+        arith,
+        few (c .before .before .before .before),
+        c .before .before .before .before .before .before .before .before .before .before .before .before .before .before .before .before
+            .before .before .before .before .pre .0,
+        left (c .before .before .before .before) _ _ _ _ (x .holds),
+        x .holds .issued,
+      ),
+      delivered-room (x .n) (x .cap) _ (x .k) (x .world) _ _ _ (x .holds) (x .more) _ (omega (
+        arith,
+        x .holds .nodes,
+        c .before .before .before .before .before .before .before .before .before .before .before .before .before .before .before .before .before .if1 .left,
+      )) (left (c .before .before .before .before) _ _ _ _ (x .holds)) _ refl _ (wide
+          (c .before .before .before .before .before .before .before .before .before .before .before .before .before .before .before .before .before .before
+          .before .before .args .at)) _ _ _ _ (c .before .before .before .before .before .before .before .before .before .before .before .deliver .ensures)
+          (search needs) _ (c .before .before .before .before .before .answer3 .given .1),
+    )
 
--- src/deliver.rt:16:1
 same-length : tie.Need-same-length
 same-length c = search needs
 
--- src/deliver.rt:16:1
 returns-3 : tie.Need-returns-3
 unfolding zeros
-returns-3 c = λ n cap k v short h. deliver-refused n cap _ k v _ _ _ h short _ (omega (arith, h .nodes, c .before .before .before .before .before .before .before .before .before .before .before .before .before .if1 .left)) (omega (arith, h .nodes, h .issued, c .before .before .before .before .before .before .before .before .before .before .before .before .if2 .left)) _ refl _ (wide (c .before .before .before .before .before .before .before .before .before .before .before .before .before .before .before .before .args .at)) _ _ _ _ (c .before .before .before .before .before .before .before .deliver .ensures) (search needs) _ (c .before .answer .given .1)
+returns-3 c = λ n cap k v short h. deliver-refused n cap _ k v _ _ _ h short _ (omega (
+  arith,
+  h .nodes,
+  c .before .before .before .before .before .before .before .before .before .before .before .before .before .if1 .left,
+)) (omega (arith, h .nodes, h .issued, c .before .before .before .before .before .before .before .before .before .before .before .before .if2 .left)) _ refl _
+    (wide (c .before .before .before .before .before .before .before .before .before .before .before .before .before .before .before .before .args .at)) _ _ _ _
+    (c .before .before .before .before .before .before .before .deliver .ensures) (search needs) _ (c .before .answer .given .1)
 
--- src/deliver.rt:16:1
 same-length-2 : tie.Need-same-length-2
 same-length-2 c = search needs
 
--- src/deliver.rt:16:1
 returns-4 : tie.Need-returns-4
 unfolding zeros
-returns-4 c = λ n cap k v short h. deliver-nothing n cap _ k v _ _ _ h short _ (omega (arith, h .nodes, c .before .before .before .before .before .before .before .before .before .before .before .before .before .if1 .left)) (omega (arith, h .nodes, h .issued, c .before .before .before .before .before .before .before .before .before .before .before .before .if2 .left)) _ refl _ (wide (c .before .before .before .before .before .before .before .before .before .before .before .before .before .before .before .before .args .at)) _ _ _ _ (c .before .before .before .before .before .before .before .deliver .ensures) (search needs) _ (c .before .answer2 .given .1)
+returns-4 c = λ n cap k v short h. deliver-nothing n cap _ k v _ _ _ h short _ (omega (
+  arith,
+  h .nodes,
+  c .before .before .before .before .before .before .before .before .before .before .before .before .before .if1 .left,
+)) (omega (arith, h .nodes, h .issued, c .before .before .before .before .before .before .before .before .before .before .before .before .if2 .left)) _ refl _
+    (wide (c .before .before .before .before .before .before .before .before .before .before .before .before .before .before .before .before .args .at)) _ _ _ _
+    (c .before .before .before .before .before .before .before .deliver .ensures) (search needs) _ (c .before .answer2 .given .1)
 
--- src/deliver.rt:16:1
 same-length-3 : tie.Need-same-length-3
 same-length-3 c = search needs
 
--- src/deliver.rt:16:1
 same-length-4 : tie.Need-same-length-4
 same-length-4 c = search needs
 
--- src/deliver.rt:16:1
 returns-5 : tie.Need-returns-5
 unfolding zeros
-returns-5 c = λ n cap k v short h. deliver-frame n cap _ k v _ _ _ h short _ (omega (arith, h .nodes, c .before .before .before .before .before .before .before .before .before .before .before .before .before .before .before .before .before .before .before .before .if1 .left)) (omega (arith, h .nodes, h .issued, c .before .before .before .before .before .before .before .before .before .before .before .before .before .before .before .before .before .before .before .if2 .left)) _ refl _ (wide (c .before .before .before .before .before .before .before .before .before .before .before .before .before .before .before .before .before .before .before .before .before .before .before .args .at)) _ _ _ _ (c .before .before .before .before .before .before .before .before .before .before .before .before .before .before .deliver .ensures) (search needs) _ (c .before .before .before .before .before .before .before .before .answer3 .given .1) _ (c .before .before .before .before .before .find .ensures (frames (v .log)) (h .begins) (omega (arith, h .issued, length-map (v .log) (λ (g : Issue). g .frame)))) _ _ (c .before .before .store .ensures .0) (c .before .before .store .ensures .1)
+returns-5 c =
+    λ n cap k v short h. deliver-frame n cap _ k v _ _ _ h short _ (omega (
+      arith,
+      h .nodes,
+      c .before .before .before .before .before .before .before .before .before .before .before .before .before .before .before .before
+          .before .before .before .before .if1 .left,
+    )) (omega (
+      arith,
+      h .nodes,
+      h .issued,
+      c .before .before .before .before .before .before .before .before .before .before .before .before .before .before .before
+          .before .before .before .before .if2 .left,
+    )) _ refl _ (wide (c .before .before .before .before .before .before .before .before .before .before .before .before .before .before .before .before .before
+    .before .before .before .before .before .before .args .at)) _ _ _ _
+    (c .before .before .before .before .before .before .before .before .before .before .before .before .before .before .deliver .ensures) (search needs) _
+    (c .before .before .before .before .before .before .before .before .answer3 .given .1) _ (c .before .before .before .before .before .find .ensures
+    (frames (v .log)) (h .begins) (omega (arith, h .issued, length-map (v .log) (λ (g : Issue). g .frame)))) _ _
+    (c .before .before .store .ensures .0) (c .before .before .store .ensures .1)
 
 pub deliver-spec : {M : Type 1} → statement M
 deliver-spec =

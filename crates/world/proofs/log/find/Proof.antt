@@ -18,29 +18,36 @@ label kind from number = record { kind = kind; from = from; number = number }
 abbrev Inv-loop : tie.InvT-loop
 Inv-loop log count to kind from number at₀ i₀ at i =
     (i ≤ count) × ((f : List (List ℕ)) → Begins f log → count ≤ length f → at ≡ length (joined (take i f)))
-    × ((f : List (List ℕ)) → Begins f log → count ≡ length f → issueFrom 1 (label kind from number) to f ≡ issueFrom (i + 1) (label kind from number) to (drop i f))
+    × ((f : List (List ℕ)) → Begins f log → count ≡ length f
+    → issueFrom 1 (label kind from number) to f ≡ issueFrom (i + 1) (label kind from number) to (drop i f))
 
 abbrev μ-loop : tie.MeasureT-loop
 μ-loop log count to kind from number at₀ i₀ at i = count - i
 
 -- the frame at place i is the part that is lent, of the log that is asked for
 part : (c : tie.After-frame-end Inv-loop μ-loop)
-    → LogPart (c .before .before .before .before .pre .frames) (c .before .before .before .before .args .log .now) (c .before .before .loop .i) (c .before .before .loop .at) (c .frame-end .result)
+    → LogPart (c .before .before .before .before .pre .frames) (c .before .before .before .before .args .log .now) (c .before .before .loop .i)
+    (c .before .before .loop .at) (c .frame-end .result)
 part c =
     let w = c .before .before in
     let p = w .before .before .pre in
-    log-part (p .frames) _ (w .loop .i) (w .loop .at) (c .frame-end .result) (p .begins) (omega (arith, p .many)) (w .loop .inv .1 (p .frames) (p .begins) (p .many)) (c .frame-end .ensures)
+    log-part (p .frames) _ (w .loop .i) (w .loop .at) (c .frame-end .result) (p .begins) (omega (arith, p .many))
+    (w .loop .inv .1 (p .frames) (p .begins) (p .many)) (c .frame-end .ensures)
 
 -- of any log of these frames
-part-of : (c : tie.After-frame-end Inv-loop μ-loop) (f : List (List ℕ)) → Begins f (c .before .before .before .before .args .log .now) → c .before .before .before .before .args .count ≤ length f
+part-of : (c : tie.After-frame-end Inv-loop μ-loop) (f : List (List ℕ)) → Begins f (c .before .before .before .before .args .log .now)
+    → c .before .before .before .before .args .count ≤ length f
     → LogPart f (c .before .before .before .before .args .log .now) (c .before .before .loop .i) (c .before .before .loop .at) (c .frame-end .result)
 part-of c f b h =
     let w = c .before .before in
     log-part f _ (w .loop .i) (w .loop .at) (c .frame-end .result) b (omega arith) (w .loop .inv .1 f b h) (c .frame-end .ensures)
 
 -- the test of the frame at place i
-tested : (c : tie.After-is-named Inv-loop μ-loop) (f : List (List ℕ)) → Begins f (c .before .before .before .before .before .before .args .log .now) → c .before .before .before .before .before .before .args .count ≤ length f
-    → c .is-named .result ≡ named (label (c .before .before .before .before .before .before .args .kind) (c .before .before .before .before .before .before .args .from) (c .before .before .before .before .before .before .args .number))
+tested : (c : tie.After-is-named Inv-loop μ-loop) (f : List (List ℕ)) → Begins f (c .before .before .before .before .before .before .args .log .now)
+    → c .before .before .before .before .before .before .args .count ≤ length f
+    → c .is-named .result
+    ≡ named (label (c .before .before .before .before .before .before .args .kind) (c .before .before .before .before .before .before .args .from)
+    (c .before .before .before .before .before .before .args .number))
     (c .before .before .before .before .before .before .args .to) (getD f (c .before .before .before .before .loop .i) [])
 tested c f b h = c .is-named .ensures ∙ ap (named _ _) (part-of (c .before .before) f b h .same)
 

@@ -19,14 +19,17 @@ returns-2 : tie.Need-returns-2
 returns-2 c = sym (not-kind _ _ _ _ (c .before .before .before .before .read .ensures) (c .before .before .if1 .left) (c .if2 .taken))
 
 returns-3 : tie.Need-returns-3
-returns-3 c = sym (not-from _ _ _ _ (c .before .before .before .before .before .before .read .ensures) (c .before .before .before .before .if1 .left) (c .before .before .if2 .left) (c .if3 .taken))
+returns-3 c =
+    sym (not-from _ _ _ _ (c .before .before .before .before .before .before .read .ensures) (c .before .before .before .before .if1 .left)
+    (c .before .before .if2 .left) (c .if3 .taken))
 
 number-requires : tie.Need-number-requires
 number-requires c κs = search needs
 
 returns-4 : tie.Need-returns-4
 returns-4 c =
-    by-number _ _ _ _ (c .before .before .before .before .before .before .before .read .ensures) (c .before .before .before .before .before .if1 .left) (c .before .before .before .if2 .left) (c .before .if3 .left)
+    by-number _ _ _ _ (c .before .before .before .before .before .before .before .read .ensures) (c .before .before .before .before .before .if1 .left)
+    (c .before .before .before .if2 .left) (c .before .if3 .left)
     (c .number .result) (c .number .ensures)
 
 pub is-named-spec : {M : Type 1} → statement M

@@ -33,11 +33,16 @@ loop-less c = search needs
 
 loop-again : tie.Need-loop-again Inv-loop μ-loop
 loop-again c =
-    let w = c .before .before in
-    (search needs, λ f b h. log-part f _ (w .loop .i) (w .loop .at) (c .frame-end .result) b (omega arith) (w .loop .inv .1 f b h) (c .frame-end .ensures) .next)
+    let w = c .before .before in (
+      search needs,
+      λ f b h. log-part f _ (w .loop .i) (w .loop .at) (c .frame-end .result) b (omega arith) (w .loop .inv .1 f b h) (c .frame-end .ensures) .next,
+    )
 
 returns : tie.Need-returns Inv-loop μ-loop
-returns c = λ f b h. let w = c .before in let e : w .loop .i ≡ w .before .before .args .k = omega arith in w .loop .inv .1 f b h ∙ ap (λ (x : ℕ). length (joined (take x f))) e
+returns c =
+    λ f b h. let w = c .before in
+    let e : w .loop .i ≡ w .before .before .args .k = omega arith in
+    w .loop .inv .1 f b h ∙ ap (λ (x : ℕ). length (joined (take x f))) e
 
 pub skip-spec : {M : Type 1} → statement M
 skip-spec = tie.close (tie.spec Inv-loop μ-loop loop-holds frame-end-requires add-i loop-less loop-again returns)

@@ -29,142 +29,155 @@ wide : (k : ℕ) → queueSize * k + queueSize - queueSize * k ≡ queueSize
 wide k = omega arith
 
 -- the frame of the issue, in the log of any world that is stored
-part : (c : tie.After-frame-end) (n cap k : ℕ) (v : World) → Holds n cap (c .before .before .before .before .before .before .args .limit) k v (c .before .before .before .before .before .before .args .t1) (c .before .before .before .before .before .before .args .queues .now) (c .before .before .before .before .before .before .args .log .now)
-    → LogPart (frames (v .log)) (c .before .before .before .before .before .before .args .log .now) (c .before .before .before .before .before .before .args .issue - 1) (c .before .skip .result) (c .frame-end .result)
+part : (c : tie.After-frame-end) (n cap k : ℕ) (v : World)
+    → Holds n cap (c .before .before .before .before .before .before .args .limit) k v (c .before .before .before .before .before .before .args .t1)
+    (c .before .before .before .before .before .before .args .queues .now) (c .before .before .before .before .before .before .args .log .now)
+    → LogPart (frames (v .log)) (c .before .before .before .before .before .before .args .log .now)
+    (c .before .before .before .before .before .before .args .issue - 1) (c .before .skip .result) (c .frame-end .result)
 part c n cap k v h =
     let m = length-map (v .log) (λ (g : Issue). g .frame) in
-    log-part (frames (v .log)) _ (c .before .before .before .before .before .before .args .issue - 1) (c .before .skip .result) (c .frame-end .result) (h .begins) (omega (arith, m, h .issued))
+    log-part (frames (v .log)) _ (c .before .before .before .before .before .before .args .issue - 1) (c .before .skip .result) (c .frame-end .result)
+    (h .begins) (omega (arith, m, h .issued))
     (c .before .skip .ensures (frames (v .log)) (h .begins) (omega (arith, m, h .issued))) (c .frame-end .ensures)
 
 -- of the world that is asked for
-here : (c : tie.After-frame-end) → LogPart (frames (c .before .before .before .before .before .before .pre .world .log)) (c .before .before .before .before .before .before .args .log .now) (c .before .before .before .before .before .before .args .issue - 1) (c .before .skip .result) (c .frame-end .result)
+here : (c : tie.After-frame-end)
+    → LogPart (frames (c .before .before .before .before .before .before .pre .world .log)) (c .before .before .before .before .before .before .args .log .now)
+    (c .before .before .before .before .before .before .args .issue - 1) (c .before .skip .result) (c .frame-end .result)
 here c = let x = c .before .before .before .before .before .before .pre in part c (x .n) (x .cap) (x .k) (x .world) (x .holds)
 
 -- its destination is read
-heads : (c : tie.After-read) (n cap k : ℕ) (v : World) → Holds n cap (c .before .before .before .before .before .before .before .before .args .limit) k v (c .before .before .before .before .before .before .before .before .args .t1) (c .before .before .before .before .before .before .before .before .args .queues .now) (c .before .before .before .before .before .before .before .before .args .log .now)
+heads : (c : tie.After-read) (n cap k : ℕ) (v : World) → Holds n cap (c .before .before .before .before .before .before .before .before .args .limit) k v
+    (c .before .before .before .before .before .before .before .before .args .t1)
+    (c .before .before .before .before .before .before .before .before .args .queues .now)
+    (c .before .before .before .before .before .before .before .before .args .log .now)
     → c .read .result .to ≡ destination (getD (frames (v .log)) (c .before .before .before .before .before .before .before .before .args .issue - 1) [])
 heads c n cap k v h = ap (λ (x : Header). x .to) (c .read .ensures ∙ ap header (part (c .before .before) n cap k v h .same))
 
 below : (c : tie.After-read) → c .read .result .to < c .before .before .before .before .before .before .before .before .args .t1 .n
 below c =
     let x = c .before .before .before .before .before .before .before .before .pre in
-    omega (arith, x .holds .nodes, offer-to (x .n) (x .cap) _ (x .k) (x .world) _ _ _ (x .holds) (x .more) (c .before .before .before .before .before .before .before .before .args .issue) (c .before .before .before .before .before .if1 .left) (omega (arith, x .holds .issued)) _ (heads c (x .n) (x .cap) (x .k) (x .world) (x .holds)))
+    omega (
+      arith,
+      x .holds .nodes,
+      offer-to (x .n) (x .cap) _ (x .k) (x .world) _ _ _ (x .holds) (x .more) (c .before .before .before .before .before .before .before .before .args .issue)
+          (c .before .before .before .before .before .if1 .left) (omega (arith, x .holds .issued)) _ (heads c (x .n) (x .cap) (x .k) (x .world) (x .holds)),
+    )
 
--- src/offer.rt:20:9
 returns : tie.Need-returns
 returns c = λ n cap k v short h. offer-none n cap _ k v _ _ _ h short _ (c .if1 .taken)
 
--- src/offer.rt:23:9
 returns-2 : tie.Need-returns-2
 returns-2 c = λ n cap k v short h. offer-past n cap _ k v _ _ _ h short _ (c .before .if1 .left) (omega (arith, h .issued))
 
--- src/offer.rt:25:32
 sub-skip : tie.Need-sub-skip
 sub-skip c = search needs
 
--- src/offer.rt:25:9
 skip-requires : tie.Need-skip-requires
-skip-requires c κs = let x = c .before .before .before .before .pre in begins-with (x .n) (x .cap) _ (x .k) (x .world) _ _ _ (x .holds) (omega (arith, x .more)) _ (omega (arith, x .holds .issued))
+skip-requires c κs =
+    let x = c .before .before .before .before .pre in
+    begins-with (x .n) (x .cap) _ (x .k) (x .world) _ _ _ (x .holds) (omega (arith, x .more)) _ (omega (arith, x .holds .issued))
 
--- src/offer.rt:26:9
 frame-end-requires : tie.Need-frame-end-requires
-frame-end-requires c κs = let x = c .before .before .before .before .before .pre in let m = length-map (x .world .log) (λ (g : Issue). g .frame) in log-room (frames (x .world .log)) _ (c .before .before .before .before .before .args .issue - 1) (c .skip .result) (x .holds .begins) (omega (arith, m, x .holds .issued)) (c .skip .ensures (frames (x .world .log)) (x .holds .begins) (omega (arith, m, x .holds .issued)))
+frame-end-requires c κs =
+    let x = c .before .before .before .before .before .pre in
+    let m = length-map (x .world .log) (λ (g : Issue). g .frame) in
+    log-room (frames (x .world .log)) _ (c .before .before .before .before .before .args .issue - 1) (c .skip .result) (x .holds .begins)
+    (omega (arith, m, x .holds .issued)) (c .skip .ensures (frames (x .world .log)) (x .holds .begins) (omega (arith, m, x .holds .issued)))
 
--- src/offer.rt:27:34
 sub-read : tie.Need-sub-read
 sub-read c = search needs
 
--- src/offer.rt:27:34
 part-read-start : tie.Need-part-read-start
 part-read-start c = search needs
 
--- src/offer.rt:27:34
 part-read-end : tie.Need-part-read-end
 part-read-end c = let p = here c in omega (arith, p .inside)
 
--- src/offer.rt:27:14
 read-requires : tie.Need-read-requires
 read-requires c κs = let p = here (c .before) in rw (p .same) (header-room _ (p .sound))
 
--- src/offer.rt:27:14
 cast-to : tie.Need-cast-to
 cast-to c = search needs
 
--- src/offer.rt:28:17
 mul-first : tie.Need-mul-first
 mul-first c = search needs
 
--- src/offer.rt:29:16
 add-last : tie.Need-add-last
 add-last c = search needs
 
--- src/offer.rt:30:18
 mul-record : tie.Need-mul-record
 mul-record c = search needs
 
--- src/offer.rt:30:18
 element-copy-out-record : tie.Need-element-copy-out-record
-element-copy-out-record c = let b = below (c .before) in let x = c .before .before .before .before .before .before .before .before .before .pre in omega (arith, x .holds .nodes, x .holds .few)
+element-copy-out-record c =
+    let b = below (c .before) in
+    let x = c .before .before .before .before .before .before .before .before .before .pre in
+    omega (arith, x .holds .nodes, x .holds .few)
 
--- src/offer.rt:31:32
 sub-offer : tie.Need-sub-offer
 sub-offer c = search needs
 
--- src/offer.rt:31:32
 part-offer-start : tie.Need-part-offer-start
 part-offer-start c = search needs
 
--- src/offer.rt:31:32
 part-offer-end : tie.Need-part-offer-end
 part-offer-end c = let p = here (c .before .before .before .before) in omega (arith, p .inside)
 
--- src/offer.rt:31:50
 sub-offer-2 : tie.Need-sub-offer-2
 sub-offer-2 c = search needs
 
--- src/offer.rt:31:50
 part-offer-start-2 : tie.Need-part-offer-start-2
 part-offer-start-2 c = search needs
 
--- src/offer.rt:31:50
 part-offer-end-2 : tie.Need-part-offer-end-2
-part-offer-end-2 c = let b = below (c .before .before .before) in let x = c .before .before .before .before .before .before .before .before .before .before .before .pre in omega (arith, x .holds .nodes, x .holds .few, x .holds .size)
+part-offer-end-2 c =
+    let b = below (c .before .before .before) in
+    let x = c .before .before .before .before .before .before .before .before .before .before .before .pre in
+    omega (arith, x .holds .nodes, x .holds .few, x .holds .size)
 
--- src/offer.rt:31:9
 offer-requires : tie.Need-offer-requires
 offer-requires c κs = search needs
 
--- src/offer.rt:34:30
 enum-known-answer : tie.Need-enum-known-answer
 enum-known-answer c = search needs
 
--- src/offer.rt:35:29
 enum-known-answer-2 : tie.Need-enum-known-answer-2
 enum-known-answer-2 c = search needs
 
--- src/offer.rt:38:13
 mul-after : tie.Need-mul-after
 mul-after c = search needs
 
--- src/offer.rt:38:13
 element-set-from-after : tie.Need-element-set-from-after
-element-set-from-after c = let b = below (c .before .before .before .before .before .before .before .before .before .before .before) in let x = c .before .before .before .before .before .before .before .before .before .before .before .before .before .before .before .before .before .before .before .pre in omega (arith, x .holds .nodes, x .holds .few)
+element-set-from-after c =
+    let b = below (c .before .before .before .before .before .before .before .before .before .before .before) in
+    let x = c .before .before .before .before .before .before .before .before .before .before .before .before .before .before .before .before .before .before
+    .before .pre in
+    omega (arith, x .holds .nodes, x .holds .few)
 
--- src/offer.rt:15:1
 same-length : tie.Need-same-length
 same-length c = search needs
 
--- src/offer.rt:15:1
 returns-3 : tie.Need-returns-3
-returns-3 c = λ n cap k v short h. offer-refused n cap _ k v _ _ _ h short _ (c .before .before .before .before .before .before .before .before .before .before .before .before .before .before .before .if1 .left) (omega (arith, h .issued)) _ (heads (c .before .before .before .before .before .before .before .before .before .before) n cap k v h) _ refl _ (part (c .before .before .before .before .before .before .before .before .before .before .before .before) n cap k v h .same) _ (wide (c .before .before .before .before .before .before .before .before .before .before .read .result .to)) _ _ (c .before .before .before .before .before .offer .ensures) (search needs) _ (c .before .answer .given .1)
+returns-3 c =
+    λ n cap k v short h. offer-refused n cap _ k v _ _ _ h short _
+    (c .before .before .before .before .before .before .before .before .before .before .before .before .before .before .before .if1 .left)
+    (omega (arith, h .issued)) _ (heads (c .before .before .before .before .before .before .before .before .before .before) n cap k v h) _ refl _
+    (part (c .before .before .before .before .before .before .before .before .before .before .before .before) n cap k v h .same) _
+    (wide (c .before .before .before .before .before .before .before .before .before .before .read .result .to)) _ _
+    (c .before .before .before .before .before .offer .ensures) (search needs) _ (c .before .answer .given .1)
 
--- src/offer.rt:15:1
 same-length-2 : tie.Need-same-length-2
 same-length-2 c = search needs
 
--- src/offer.rt:15:1
 returns-4 : tie.Need-returns-4
-returns-4 c = λ n cap k v short h. offer-held n cap _ k v _ _ _ h short _ (c .before .before .before .before .before .before .before .before .before .before .before .before .before .before .before .before .if1 .left) (omega (arith, h .issued)) _ (heads (c .before .before .before .before .before .before .before .before .before .before .before) n cap k v h) _ refl _ (part (c .before .before .before .before .before .before .before .before .before .before .before .before .before) n cap k v h .same) _ (wide (c .before .before .before .before .before .before .before .before .before .before .before .read .result .to)) _ _ (c .before .before .before .before .before .before .offer .ensures) (search needs) _ _ (c .before .before .answer2 .given .1) _ refl
+returns-4 c =
+    λ n cap k v short h. offer-held n cap _ k v _ _ _ h short _
+    (c .before .before .before .before .before .before .before .before .before .before .before .before .before .before .before .before .if1 .left)
+    (omega (arith, h .issued)) _ (heads (c .before .before .before .before .before .before .before .before .before .before .before) n cap k v h) _ refl _
+    (part (c .before .before .before .before .before .before .before .before .before .before .before .before .before) n cap k v h .same) _
+    (wide (c .before .before .before .before .before .before .before .before .before .before .before .read .result .to)) _ _
+    (c .before .before .before .before .before .before .offer .ensures) (search needs) _ _ (c .before .before .answer2 .given .1) _ refl
 
 pub offer-spec : {M : Type 1} → statement M
 offer-spec =

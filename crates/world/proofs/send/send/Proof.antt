@@ -20,95 +20,93 @@ unfolding zeros
 few c =
     let d = c .before .before .before .before .before .before .before .before .before .before .before .pre .1 in
     let x = d .1 in
-    sent-few (x .n) (x .cap) _ (x .k) (x .world) _ (d .0) _ (x .holds) (x .more) _ _ (omega (arith, x .holds .nodes)) (omega (arith, x .holds .nodes, x .holds .issued)) _ refl _ _ (c .before .before .before .before .send .ensures) _ _ (c .before .answer2 .given .1)
+    sent-few (x .n) (x .cap) _ (x .k) (x .world) _ (d .0) _ (x .holds) (x .more) _ _ (omega (arith, x .holds .nodes))
+    (omega (arith, x .holds .nodes, x .holds .issued)) _ refl _ _ (c .before .before .before .before .send .ensures) _ _ (c .before .answer2 .given .1)
 
 inside : (c : tie.After-known-told2) → c .before .answer2 .given .0 .0 ≤ length (c .before .before .before .before .send .last .1 .1 .1 .0)
 unfolding zeros
 inside c =
     let d = c .before .before .before .before .before .before .before .before .before .before .before .pre .1 in
     let x = d .1 in
-    sent-inside (x .n) (x .cap) _ (x .k) (x .world) _ (d .0) _ (x .holds) (x .more) _ _ (omega (arith, x .holds .nodes)) (omega (arith, x .holds .nodes, x .holds .issued)) _ refl _ _ (c .before .before .before .before .send .ensures) _ _ (c .before .answer2 .given .1)
+    sent-inside (x .n) (x .cap) _ (x .k) (x .world) _ (d .0) _ (x .holds) (x .more) _ _ (omega (arith, x .holds .nodes))
+    (omega (arith, x .holds .nodes, x .holds .issued)) _ refl _ _ (c .before .before .before .before .send .ensures) _ _ (c .before .answer2 .given .1)
 
-room : (c : tie.After-known-told2) → c .before .before .before .before .before .before .before .before .before .before .before .args .t1 .end + length (take (c .before .answer2 .given .0 .0) (c .before .before .before .before .send .last .1 .1 .1 .0)) ≤ length (c .before .before .before .before .before .before .before .before .before .before .before .args .log .now)
+room : (c : tie.After-known-told2) → c .before .before .before .before .before .before .before .before .before .before .before .args .t1 .end + length
+    (take (c .before .answer2 .given .0 .0) (c .before .before .before .before .send .last .1 .1 .1 .0))
+    ≤ length (c .before .before .before .before .before .before .before .before .before .before .before .args .log .now)
 unfolding zeros
 room c =
     let d = c .before .before .before .before .before .before .before .before .before .before .before .pre .1 in
     let x = d .1 in
-    sent-room (x .n) (x .cap) _ (x .k) (x .world) _ (d .0) _ (x .holds) (x .more) _ _ (omega (arith, x .holds .nodes)) (omega (arith, x .holds .nodes, x .holds .issued)) _ refl _ _ (c .before .before .before .before .send .ensures) _ _ (c .before .answer2 .given .1)
+    sent-room (x .n) (x .cap) _ (x .k) (x .world) _ (d .0) _ (x .holds) (x .more) _ _ (omega (arith, x .holds .nodes))
+    (omega (arith, x .holds .nodes, x .holds .issued)) _ refl _ _ (c .before .before .before .before .send .ensures) _ _ (c .before .answer2 .given .1)
 
--- src/send.rt:20:9
 returns : tie.Need-returns
 returns c = λ n cap k v q short h. send-17 n cap _ k v _ q _ h short _ _ (stops-node n _ _ v (omega (arith, h .nodes)))
 
--- src/send.rt:22:16
 add-if2 : tie.Need-add-if2
 add-if2 c = search needs
 
--- src/send.rt:23:9
 returns-2 : tie.Need-returns-2
-returns-2 c = λ n cap k v q short h. send-17 n cap _ k v _ q _ h short _ _ (stops-issues n _ _ v (omega (arith, h .nodes, h .issued)) (omega (arith, h .range .atLeast2)))
+returns-2 c =
+    λ n cap k v q short h. send-17 n cap _ k v _ q _ h short _ _ (stops-issues n _ _ v (omega (arith, h .nodes, h .issued)) (omega (arith, h .range .atLeast2)))
 
--- src/send.rt:25:18
 mul-record : tie.Need-mul-record
 mul-record c = search needs
 
--- src/send.rt:25:18
 element-copy-out-record : tie.Need-element-copy-out-record
 element-copy-out-record c = search needs
 
--- src/send.rt:29:32
 array-share-prefix-empty : tie.Need-array-share-prefix-empty
 array-share-prefix-empty c = search needs
 
--- src/send.rt:29:32
 slice-aggregate-send : tie.Need-slice-aggregate-send
 slice-aggregate-send c = search needs
 
--- src/send.rt:29:51
 slice-aggregate-send-2 : tie.Need-slice-aggregate-send-2
 slice-aggregate-send-2 c = search needs
 
--- src/send.rt:29:9
 send-requires : tie.Need-send-requires
 send-requires c κs = search needs
 
--- src/send.rt:32:29
 enum-known-answer : tie.Need-enum-known-answer
 enum-known-answer c = search needs
 
--- src/send.rt:33:28
 enum-known-answer-2 : tie.Need-enum-known-answer-2
 enum-known-answer-2 c = search needs
 
--- src/send.rt:34:57
 add-store : tie.Need-add-store
 add-store c = omega (arith, few c)
 
--- src/send.rt:34:74
 array-share-prefix-out : tie.Need-array-share-prefix-out
 array-share-prefix-out c = inside (c .before)
 
--- src/send.rt:34:74
 slice-aggregate-store : tie.Need-slice-aggregate-store
 slice-aggregate-store c = sym (length-take-le _ _ (inside (c .before .before)))
 
--- src/send.rt:34:17
 store-requires : tie.Need-store-requires
-store-requires c κs = let x = c .before .before .before .before .before .before .before .before .before .before .before .before .before .pre .1 .1 in (omega (arith, x .holds .nodes, x .holds .few), omega (arith, few (c .before .before), c .before .before .before .before .before .before .before .before .before .before .before .before .before .pre .0), room (c .before .before))
+store-requires c κs =
+    let x = c .before .before .before .before .before .before .before .before .before .before .before .before .before .pre .1 .1 in (
+      omega (arith, x .holds .nodes, x .holds .few),
+      omega (arith, few (c .before .before), c .before .before .before .before .before .before .before .before .before .before .before .before .before .pre .0),
+      room (c .before .before),
+    )
 
--- src/send.rt:15:1
 returns-3 : tie.Need-returns-3
 unfolding zeros
-returns-3 c = λ n cap k v q short h. send-refused n cap _ k v _ q _ h short _ _ (omega (arith, h .nodes)) (omega (arith, h .nodes, h .issued)) _ refl _ _ (c .before .before .before .before .send .ensures) _ (c .before .answer .given .1)
+returns-3 c =
+    λ n cap k v q short h. send-refused n cap _ k v _ q _ h short _ _ (omega (arith, h .nodes)) (omega (arith, h .nodes, h .issued)) _ refl _ _
+    (c .before .before .before .before .send .ensures) _ (c .before .answer .given .1)
 
--- src/send.rt:15:1
 same-length : tie.Need-same-length
 same-length c = search needs
 
--- src/send.rt:15:1
 returns-4 : tie.Need-returns-4
 unfolding zeros
-returns-4 c = λ n cap k v q short h. send-sent n cap _ k v _ q _ h short _ _ (omega (arith, h .nodes)) (omega (arith, h .nodes, h .issued)) _ refl _ _ (c .before .before .before .before .before .before .before .before .before .send .ensures) _ _ (c .before .before .before .before .before .before .answer2 .given .1) _ _ (c .before .before .store .ensures .0) (c .before .before .store .ensures .1)
+returns-4 c =
+    λ n cap k v q short h. send-sent n cap _ k v _ q _ h short _ _ (omega (arith, h .nodes))
+    (omega (arith, h .nodes, h .issued)) _ refl _ _ (c .before .before .before .before .before .before .before .before .before .send .ensures) _ _
+    (c .before .before .before .before .before .before .answer2 .given .1) _ _ (c .before .before .store .ensures .0) (c .before .before .store .ensures .1)
 
 pub send-spec : {M : Type 1} → statement M
 send-spec =

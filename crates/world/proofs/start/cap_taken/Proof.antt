@@ -8,29 +8,23 @@ use Rattle.world.proofs.start.cap_taken.Reads as reads
 use Rattle.world.proofs.start.cap_taken.Lts as lts
 use Rattle.node.proofs.Node.set_up.Reads as set-up-reads
 
--- src/start.rt:34:9
 returns : tie.Need-returns
 unfolding capTaken
 returns c = rw (le-leb _ _ (c .if1 .taken))
 
--- src/start.rt:36:9
 set-up-requires : tie.Need-set-up-requires
 set-up-requires c κs = search needs
 
--- src/start.rt:39:36
 enum-told : tie.Need-enum-told
 enum-told c = search needs
 
--- src/start.rt:40:31
 enum-told-2 : tie.Need-enum-told-2
 enum-told-2 c = search needs
 
--- src/start.rt:30:1
 returns-2 : tie.Need-returns-2
 unfolding capTaken
 returns-2 c = rw (lt-leb _ _ (c .before .before .before .if1 .left), ← c .before .before .set-up .ensures, c .enum-told .given .1)
 
--- src/start.rt:30:1
 returns-3 : tie.Need-returns-3
 unfolding capTaken
 returns-3 c = rw (lt-leb _ _ (c .before .before .before .if1 .left), ← c .before .before .set-up .ensures, c .enum-told2 .given .1)

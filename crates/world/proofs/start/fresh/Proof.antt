@@ -39,7 +39,15 @@ array-set-from-nodes-3 c = search needs
 
 returns : tie.Need-returns
 unfolding fresh
-returns c = rw (c .before .set-up4 .ensures, c .before .before .before .set-up3 .ensures, c .before .before .before .before .before .set-up2 .ensures, c .before .before .before .before .before .before .before .set-up .ensures)
+returns c =
+    rw (
+      c .before .set-up4 .ensures,
+      c .before .before .before .set-up3 .ensures,
+      c .before .before .before .before .before .set-up2 .ensures,
+      c .before .before .before .before .before .before .before .set-up .ensures,
+    )
 
 pub fresh-spec : {M : Type 1} → statement M
-fresh-spec = tie.close (tie.spec array-read-set-up set-up-requires array-read-set-up-2 set-up-requires-2 array-set-from-nodes array-read-set-up-3 set-up-requires-3 array-set-from-nodes-2 array-read-set-up-4 set-up-requires-4 array-set-from-nodes-3 returns)
+fresh-spec =
+    tie.close (tie.spec array-read-set-up set-up-requires array-read-set-up-2 set-up-requires-2 array-set-from-nodes array-read-set-up-3 set-up-requires-3
+    array-set-from-nodes-2 array-read-set-up-4 set-up-requires-4 array-set-from-nodes-3 returns)

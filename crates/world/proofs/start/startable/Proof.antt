@@ -9,67 +9,79 @@ use Rattle.world.proofs.start.startable.Reads as reads
 use Rattle.world.proofs.start.startable.Lts as lts
 use Rattle.world.proofs.start.cap_taken.Reads as cap-taken-reads
 
--- src/start.rt:49:9
 returns : tie.Need-returns
 unfolding startable
 returns c = rw (lt-leb _ _ (c .if1 .taken))
 
--- src/start.rt:52:9
 returns-2 : tie.Need-returns-2
 unfolding startable
 returns-2 c = rw (le-leb _ _ (c .before .if1 .left), lt-leb _ _ (c .if2 .taken))
 
--- src/start.rt:54:25
 array-read-cap-taken : tie.Need-array-read-cap-taken
 array-read-cap-taken c = search needs
 
--- src/start.rt:54:9
 cap-taken-requires : tie.Need-cap-taken-requires
 cap-taken-requires c κs = search needs
 
--- src/start.rt:55:9
 returns-3 : tie.Need-returns-3
 unfolding startable
-returns-3 c = rw (le-leb _ _ (c .before .before .before .if1 .left), le-leb _ _ (c .before .before .if2 .left), denied _ _ (c .before .cap-taken .ensures) (c .if3 .taken))
+returns-3 c =
+    rw (
+      le-leb _ _ (c .before .before .before .if1 .left),
+      le-leb _ _ (c .before .before .if2 .left),
+      denied _ _ (c .before .cap-taken .ensures) (c .if3 .taken),
+    )
 
--- src/start.rt:57:25
 array-read-cap-taken-2 : tie.Need-array-read-cap-taken-2
 array-read-cap-taken-2 c = search needs
 
--- src/start.rt:57:9
 cap-taken-requires-2 : tie.Need-cap-taken-requires-2
 cap-taken-requires-2 c κs = search needs
 
--- src/start.rt:58:9
 returns-4 : tie.Need-returns-4
 unfolding startable
-returns-4 c = rw (le-leb _ _ (c .before .before .before .before .before .if1 .left), le-leb _ _ (c .before .before .before .before .if2 .left), passed _ _ (c .before .before .before .cap-taken .ensures) (c .before .before .if3 .left), denied _ _ (c .before .cap-taken2 .ensures) (c .if4 .taken))
+returns-4 c =
+    rw (
+      le-leb _ _ (c .before .before .before .before .before .if1 .left),
+      le-leb _ _ (c .before .before .before .before .if2 .left),
+      passed _ _ (c .before .before .before .cap-taken .ensures) (c .before .before .if3 .left),
+      denied _ _ (c .before .cap-taken2 .ensures) (c .if4 .taken),
+    )
 
--- src/start.rt:60:25
 array-read-cap-taken-3 : tie.Need-array-read-cap-taken-3
 array-read-cap-taken-3 c = search needs
 
--- src/start.rt:60:9
 cap-taken-requires-3 : tie.Need-cap-taken-requires-3
 cap-taken-requires-3 c κs = search needs
 
--- src/start.rt:61:9
 returns-5 : tie.Need-returns-5
 unfolding startable
-returns-5 c = rw (le-leb _ _ (c .before .before .before .before .before .before .before .if1 .left), le-leb _ _ (c .before .before .before .before .before .before .if2 .left), passed _ _ (c .before .before .before .before .before .cap-taken .ensures) (c .before .before .before .before .if3 .left), passed _ _ (c .before .before .before .cap-taken2 .ensures) (c .before .before .if4 .left), denied _ _ (c .before .cap-taken3 .ensures) (c .if5 .taken))
+returns-5 c =
+    rw (
+      le-leb _ _ (c .before .before .before .before .before .before .before .if1 .left),
+      le-leb _ _ (c .before .before .before .before .before .before .if2 .left),
+      passed _ _ (c .before .before .before .before .before .cap-taken .ensures) (c .before .before .before .before .if3 .left),
+      passed _ _ (c .before .before .before .cap-taken2 .ensures) (c .before .before .if4 .left),
+      denied _ _ (c .before .cap-taken3 .ensures) (c .if5 .taken),
+    )
 
--- src/start.rt:63:21
 array-read-cap-taken-4 : tie.Need-array-read-cap-taken-4
 array-read-cap-taken-4 c = search needs
 
--- src/start.rt:63:5
 cap-taken-requires-4 : tie.Need-cap-taken-requires-4
 cap-taken-requires-4 c κs = search needs
 
--- src/start.rt:45:1
 returns-6 : tie.Need-returns-6
 unfolding startable
-returns-6 c = rw (le-leb _ _ (c .before .before .before .before .before .before .before .before .if1 .left), le-leb _ _ (c .before .before .before .before .before .before .before .if2 .left), passed _ _ (c .before .before .before .before .before .before .cap-taken .ensures) (c .before .before .before .before .before .if3 .left), passed _ _ (c .before .before .before .before .cap-taken2 .ensures) (c .before .before .before .if4 .left), passed _ _ (c .before .before .cap-taken3 .ensures) (c .before .if5 .left), c .cap-taken4 .ensures)
+returns-6 c =
+    rw (
+      le-leb _ _ (c .before .before .before .before .before .before .before .before .if1 .left),
+      le-leb _ _ (c .before .before .before .before .before .before .before .if2 .left),
+      passed _ _ (c .before .before .before .before .before .before .cap-taken .ensures) (c .before .before .before .before .before .if3 .left),
+      passed _ _ (c .before .before .before .before .cap-taken2 .ensures) (c .before .before .before .if4 .left),
+      passed _ _ (c .before .before .cap-taken3 .ensures) (c .before .if5 .left),
+      c .cap-taken4 .ensures,
+    )
 
 pub startable-spec : {M : Type 1} → statement M
 startable-spec =
