@@ -1,6 +1,13 @@
 //! The program `yard`: standard input to standard output. One byte more than the longest input is read, which tells longer input.
 use simulation::Ran;
 
+// Writes the output, or says on standard error that it cannot be written.
+fn print(output: &[u8]) {
+    if !io::write_all(1, output) {
+        io::write_all(2, b"yard: the output cannot be written\n");
+    }
+}
+
 fn main() {
     let mut input = [0u8; simulation::MAX_INPUT + 1];
     let n = io::read_full(0, &mut input);
@@ -9,7 +16,7 @@ fn main() {
     match ran {
         Ran::TooShort => {}
         Ran::Written(k) => {
-            io::write_all(1, &out[..k]);
+            print(&out[..k]);
         }
     }
 }

@@ -3,7 +3,9 @@
 use differential::program::yard_output;
 use differential::run::Tally;
 use generate::{Call, Generator};
+use std::fs::File;
 use std::path::{Path, PathBuf};
+use std::process::Command;
 
 /// Seeds of the generated inputs.
 const SEEDS: [u64; 3] = [501, 502, 503];
@@ -81,4 +83,12 @@ fn stored_inputs() {
     let program = program();
     let run = |input: &[u8]| yard_output(&program, input).unwrap_or_else(|error| panic!("{error}"));
     assert_eq!(printed_for_stored(run), expected, "{}", program.display());
+}
+
+#[test]
+fn an_output_that_cannot_be_written_is_told() {
+    let input = File::open(from_top("examples/detour.yard")).expect("the example is there");
+    let full = File::options().write(true).open("/dev/full").expect("a device that is always full");
+    let ended = Command::new(program()).stdin(input).stdout(full).output().expect("the yard runs");
+    assert_eq!(String::from_utf8_lossy(&ended.stderr), "yard: the output cannot be written\n");
 }
