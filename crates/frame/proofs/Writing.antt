@@ -48,6 +48,7 @@ pub writing-end : (o₀ : List ℕ) (at : ℕ) (whole : List Entry) (o : List �
 writing-end o₀ at whole o pos left w e =
     (omega (arith, w .place, ap length e), sym (put-none o pos) ∙ ap (λ (l : List Entry). put o pos (entriesBytes l)) (sym e) ∙ w .bytes)
 
+-- nothing is left once the place behind the whole is reached
 pub writing-all : (o₀ : List ℕ) (at : ℕ) (whole : List Entry) (o : List ℕ) (pos : ℕ) (left : List Entry) → Writing o₀ at whole o pos left
     → at + 6 * length whole ≤ pos → left ≡ []
 writing-all o₀ at whole o pos [] w h = refl

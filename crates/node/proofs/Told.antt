@@ -30,9 +30,8 @@ use Rattle.protocol.specs.Node.{Node}
 use Rattle.protocol.specs.Offer.{deliverable}
 use Rattle.protocol.specs.Trim.{trimFor}
 use Rattle.trim.proofs.Bounds.{trim-1008}
-use Rattle.node.proofs.Shared.{record-passed}
 use Rattle.node.proofs.Sending.{frame-room, send-accepted, send-refused, sendable}
-use Rattle.node.proofs.Offering.{length-messages, offer-accepted, offer-refused}
+use Rattle.node.proofs.Offering.{length-messages, offer-accepted, offer-refused, offerable}
 use Rattle.node.proofs.Delivering.{Ready, deliver-accepted, deliver-ready, deliver-refused, searched}
 use Rattle.node.proofs.Taking.{bodied}
 use Rattle.node.specs.Answers.{AfterSend, AfterOffer, AfterDeliver}
@@ -99,20 +98,19 @@ module _ (r : Record) (to : ℕ) (body out : List ℕ) where
 -- what an offer leaves in the queue, by its answer
 abbrev pub OfferTold : List ℕ → OfferAnswer → AfterOffer → Type 0
 OfferTold q (offerAnswer.Refused k) c = c .queue ≡ q
-OfferTold q (offerAnswer.Held count ready) c = count ≤ 17
+OfferTold q (offerAnswer.Held count ready) c = count ≤ 16
 
 module _ (r : Record) (s q : List ℕ) where
   abbrev offered : AfterOffer → Type 0
   offered c = OfferTold q (c .result .answer) c
 
   pub offer-told : OfferTold q (offerCall r s q .result .answer) (offerCall r s q)
-  unfolding offerRefusal
   offer-told = go (ℕ-discrete (offerRefusal r s q) 0)
     where
       go : Dec (offerRefusal r s q ≡ 0) → offered (offerCall r s q)
       go (yes z) =
           subst offered (offer-accepted r s q z)
-          (omega (arith, length-append (heldMessages (r .held) q) (decode s ∷ []), length-messages (r .held) q, record-passed r q false _ z .sound .room))
+          (omega (arith, length-append (heldMessages (r .held) q) (decode s ∷ []), length-messages (r .held) q, offerable r s q z .holdable .room))
       go (no h) = subst offered (offer-refused r s q (offerRefusal r s q) refl h) refl
 
 -- ---- deliver
