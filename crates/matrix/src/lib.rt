@@ -1,6 +1,6 @@
 //! The matrix of counts: 144 counts, row by row, so that row x and column y stand at place 12 * x + y. Nothing here knows of bytes.
 ghost use mathlib.Core.Path.{_≡_};
-ghost use Prim.Native.Nat.{_≤_, _<_, max};
+ghost use Prim.Native.Nat.{_<_, max};
 ghost use lib.ListN.{length};
 ghost use Rattle.matrix.specs.Matrix.{nonZero, count, columnCount, fullest, clear, merge, single};
 ghost use Rattle.matrix.specs.Array.{flat, entry};

@@ -1,6 +1,5 @@
 -- What the answer of a call tells of what the call left: the frames that it wrote, and that its numbers are small. Assumes nothing.
 use Prim.Native.Nat.{ℕ, _+_, _-_, _≤_}
-use mathlib.Core.Bool.{false}
 use mathlib.Core.List.{List, [], _∷_}
 use mathlib.Core.Path.{_≡_, refl, subst, sym}
 use native.Mathlib.Decide.{ℕ-discrete}

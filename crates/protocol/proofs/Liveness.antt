@@ -1,7 +1,7 @@
 -- In a good world: delivered is decided, the queues hold what the history says, and an earliest undelivered message exists.
 -- With fewer than 1,000,000,000 steps an offer of it is accepted, or a deliver at its destination delivers a message.
 use Prim.Native.Nat.{ℕ, zero, suc, _≤_, _<_}
-use mathlib.Core.Bool.{Bool, true, false, not, cond, _&&_}
+use mathlib.Core.Bool.{true, not, cond, _&&_}
 use mathlib.Core.List.{List, [], _∷_}
 use mathlib.Core.Logic.{_⊎_, inl, inr}
 use mathlib.Core.Option.{Option, none, some}

@@ -1,6 +1,6 @@
 -- A record that keeps each rule breaks none: the way back from `unbroken`. Assumes nothing.
-use Prim.Native.Nat.{_*_, _<_, _≤_, ℕ}
-use mathlib.Core.Bool.{Bool, _&&_, _||_, false, not}
+use Prim.Native.Nat.{_*_, _<_, ℕ}
+use mathlib.Core.Bool.{_&&_, _||_, false, not}
 use mathlib.Core.Logic.{inl, inr}
 use mathlib.Core.Path.{_≡_}
 use native.Mathlib.Decide.{decLt}

@@ -4,7 +4,7 @@ ghost use mathlib.Core.Path.{_≡_};
 ghost use mathlib.Core.Bool.{_&&_, _||_};
 ghost use Prim.Native.Nat.{_+_, _*_, _≤_, _<_};
 ghost use lib.Dec.{eqb, leb, ltb};
-ghost use lib.ListN.{length, getD};
+ghost use lib.ListN.{length};
 ghost use Rattle.wire.specs.Limits.{maxCount};
 ghost use Rattle.matrix.specs.Array.{entry, vector};
 ghost use Rattle.protocol.specs.Node.{Node, atLimit, eachBelow, someBelow};

@@ -1,9 +1,9 @@
 -- A deliver that is not refused leaves a sound record and queue. Assumes nothing.
 use Prim.Native.Nat.{_-_, _<_, _≤_, suc, ℕ}
 use mathlib.Core.Bool.{not}
-use mathlib.Core.List.{List, [], _∷_, map}
+use mathlib.Core.List.{List, map}
 use mathlib.Core.Option.{some}
-use mathlib.Core.Path.{_∙_, _≡_, ap, refl, subst, sym}
+use mathlib.Core.Path.{_∙_, _≡_, ap, subst, sym}
 use native.Mathlib.Decide.{ℕ-discrete}
 use native.Mathlib.Nat.{zero-add}
 use native.Mathlib.Omega.{arith}
@@ -20,7 +20,7 @@ use Rattle.holdback.specs.Slots.{heldMessages, laid, without}
 use Rattle.matrix.proofs.Array.{getD-list}
 use Rattle.matrix.specs.Array.{entry, flat, listFrom, vector}
 use Rattle.matrix.specs.Message.{Message, number}
-use Rattle.node.proofs.Delivering.{concluded, searched}
+use Rattle.node.proofs.Delivering.{searched}
 use Rattle.node.specs.Answers.{AfterDeliver}
 use Rattle.node.specs.Calls.{acceptDeliver}
 use Rattle.node.specs.Record.{nodeAt}
@@ -36,7 +36,7 @@ use Rattle.protocol.specs.Offer.{deliverable}
 use Rattle.rules.proofs.Facts.{limit-row, limit-vector}
 use Rattle.soundness.proofs.Frames.{Carried, carried}
 use Rattle.soundness.proofs.Matrices.{keeps-array, learn-keeps}
-use Rattle.soundness.proofs.States.{Follows, apart, as-many, bare, each-kept, facts, follows, frames, laid-out, with}
+use Rattle.soundness.proofs.States.{Follows, apart, as-many, bare, each-kept, facts, follows, frames, with}
 use Rattle.soundness.specs.HandedBack.{SoundState}
 use Rattle.wire.specs.Limits.{maxCount}
 

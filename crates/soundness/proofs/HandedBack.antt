@@ -1,6 +1,6 @@
 -- What a call hands back, the next call takes. Assumes nothing.
-use Prim.Native.Nat.{_<_, _≤_, ℕ}
-use mathlib.Core.Bool.{cond, false}
+use Prim.Native.Nat.{_<_, ℕ}
+use mathlib.Core.Bool.{false}
 use mathlib.Core.List.{List, [], _++_, _∷_, map, map-append}
 use mathlib.Core.Path.{_∙_, _≡_, ap, refl, subst, sym}
 use native.Mathlib.Decide.{ℕ-discrete}

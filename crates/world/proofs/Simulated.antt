@@ -1,14 +1,14 @@
 -- A simulation's step leads from a world that a list leads to to another such world, whatever the limit of issues. Assumes nothing.
 use Prim.Native.Nat.{ℕ, zero, suc, _+_, _<_}
 use mathlib.Core.Bool.{_||_}
-use mathlib.Core.List.{List, []}
+use mathlib.Core.List.{[]}
 use mathlib.Core.Option.{Option, none, some}
 use mathlib.Core.Path.{_≡_, refl}
 use lib.Dec.{leb, nleb→lt}
 use lib.ListN.{getElem?}
 use Rattle.wire.proofs.Tests.{cond-elim, or-not}
 use Rattle.matrix.specs.Message.{InRange}
-use Rattle.node.specs.Answers.{AfterSend, AfterOffer, AfterDeliver}
+use Rattle.node.specs.Answers.{AfterSend, AfterDeliver}
 use Rattle.node.specs.Calls.{sendCall, offerCall, deliverCall}
 use Rattle.node.specs.declared.SendAnswer.{SendAnswer}
 use Rattle.node.specs.declared.OfferAnswer.{OfferAnswer}
