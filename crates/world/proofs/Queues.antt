@@ -13,6 +13,10 @@ use Rattle.holdback.specs.Slots.{queueSize}
 use Rattle.world.specs.Stored.{queueAt}
 use Rattle.world.specs.Start.{maxSimulated}
 
+-- the part of the queues from queue k to the next has 12,832 bytes
+pub wide : (k : ℕ) → queueSize * k + queueSize - queueSize * k ≡ queueSize
+wide k = omega arith
+
 -- the queue of node i, where its width is given as a number
 pub queue-part : (i width : ℕ) (q : List ℕ) → width ≡ queueSize → take width (drop (queueSize * i) q) ≡ queueAt q i
 unfolding queueAt

@@ -1,14 +1,15 @@
 -- The tests in order, the call, the issue found in the log, and what is left. Assumes nothing.
-use Prim.Native.Nat.{ℕ, _+_, _*_, _-_, _≤_}
+use Prim.Native.Nat.{ℕ, _+_, _-_, _≤_}
 use mathlib.Core.Path.{_≡_, refl, sym}
 use native.Mathlib.Omega.{arith}
 use lib.ListN.{length, length-map}
 use lib.Seq.{length-take-le}
 use Rattle.causality.specs.Demand3.{Issue, World}
-use Rattle.holdback.specs.Slots.{queueSize, zeros}
+use Rattle.holdback.specs.Slots.{zeros}
 use Rattle.world.proofs.Delivers.{deliver-17, deliver-frame, deliver-nothing, deliver-refused, delivered-few, delivered-inside, delivered-room}
 use Rattle.world.proofs.Keeping.{begins-with}
 use Rattle.world.proofs.Sends.{stops-issues, stops-node}
+use Rattle.world.proofs.Queues.{wide}
 use Rattle.world.specs.Steps.{frames}
 use Rattle.world.specs.Stored.{Holds}
 use borrow.Author.Needs.{needs}
@@ -19,10 +20,6 @@ use Rattle.world.proofs.deliver.deliver.Lts as lts
 use Rattle.node.proofs.Node.deliver.Reads as deliver-reads
 use Rattle.world.proofs.log.find.Reads as find-reads
 use Rattle.world.proofs.store.store.Reads as store-reads
-
--- a queue has 12,832 bytes
-wide : (k : ℕ) → queueSize * k + queueSize - queueSize * k ≡ queueSize
-wide k = omega arith
 
 -- the issues that are left, for any world that is stored
 left : (c : tie.After-known-told3) (n cap k : ℕ) (v : World) → Holds n cap

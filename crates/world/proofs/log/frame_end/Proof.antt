@@ -1,18 +1,10 @@
 -- The own length of the frame, read at its beginning. Assumes nothing.
-use Prim.Native.Nat.{_-_, ℕ}
-use mathlib.Core.List.{List}
-use mathlib.Core.Path.{_≡_}
 use native.Mathlib.Omega.{arith}
 use borrow.Author.Needs.{needs}
-use lib.ListN.{length, take, drop, length-drop}
-use lib.Seq.{take-all}
+use Rattle.holdback.proofs.Filling.{rest-lent}
 use Rattle.holdback.proofs.Slots.{own-most}
 use Rattle.world.proofs.log.frame_end.Statement.{statement}
 use Rattle.world.proofs.log.frame_end.Tie as tie
-
--- the part that is lent is all that follows
-rest : (s : List ℕ) (at : ℕ) → take (length s - at) (drop at s) ≡ drop at s
-rest s at = take-all (length s - at) (drop at s) (omega (arith, length-drop at s))
 
 sub-read : tie.Need-sub-read
 sub-read c = search needs
@@ -37,7 +29,7 @@ add-result c =
 returns : tie.Need-returns
 returns c =
     let a = c .before .before .before .before in
-    rw (c .own-length .ensures, c .before .read .ensures, rest (a .args .log .now) (a .args .at))
+    rw (c .own-length .ensures, c .before .read .ensures, rest-lent (a .args .log .now) (a .args .at))
 
 pub frame-end-spec : {M : Type 1} → statement M
 frame-end-spec = tie.close (tie.spec sub-read part-read-start part-read-end read-requires own-length-requires add-result returns)

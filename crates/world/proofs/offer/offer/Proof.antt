@@ -1,5 +1,5 @@
 -- The tests in order, the frame found in the log, the call, and what it leaves. Assumes nothing.
-use Prim.Native.Nat.{ℕ, _+_, _*_, _-_, _<_}
+use Prim.Native.Nat.{ℕ, _+_, _-_, _<_}
 use mathlib.Core.List.{[]}
 use mathlib.Core.Path.{_≡_, _∙_, ap, refl}
 use native.Mathlib.Omega.{arith}
@@ -7,11 +7,11 @@ use lib.ListN.{getD, length-map}
 use Rattle.arrival.proofs.Sound.{header-room}
 use Rattle.frame.specs.declared.header.Header.{Header}
 use Rattle.frame.specs.Header.{header}
-use Rattle.holdback.specs.Slots.{queueSize}
 use Rattle.causality.specs.Demand3.{Issue, World, destination}
 use Rattle.world.proofs.Keeping.{begins-with}
 use Rattle.world.proofs.Logs.{LogPart, log-part, log-room}
 use Rattle.world.proofs.Offers.{offer-held, offer-none, offer-past, offer-refused, offer-to}
+use Rattle.world.proofs.Queues.{wide}
 use Rattle.world.specs.Steps.{frames}
 use Rattle.world.specs.Stored.{Holds}
 use borrow.Author.Needs.{needs}
@@ -23,10 +23,6 @@ use Rattle.frame.proofs.header.read.Reads as read-reads
 use Rattle.node.proofs.Node.offer.Reads as offer-reads
 use Rattle.world.proofs.log.frame_end.Reads as frame-end-reads
 use Rattle.world.proofs.log.skip.Reads as skip-reads
-
--- a queue has 12,832 bytes
-wide : (k : ℕ) → queueSize * k + queueSize - queueSize * k ≡ queueSize
-wide k = omega arith
 
 -- the frame of the issue, in the log of any world that is stored
 part : (c : tie.After-frame-end) (n cap k : ℕ) (v : World)
