@@ -14,7 +14,7 @@ use Rattle.frame.proofs.Written.{decode-encode, encode-sound}
 use Rattle.frame.specs.Frame.{decode, encode}
 use Rattle.frame.specs.Refusals.{frameRefusal}
 use Rattle.holdback.proofs.Held.{FrameKept}
-use Rattle.holdback.proofs.Passing.{Apart, EachFrame, framed-all, queue-right}
+use Rattle.holdback.proofs.Passing.{EachFrame, framed-all, queue-right}
 use Rattle.holdback.proofs.Slots.{EachFramed, framed-fits, held-slots, length-slots}
 use Rattle.holdback.specs.WrongQueue.{wrongQueue}
 use Rattle.holdback.specs.Slots.{heldFrames, heldMessages, laid, queueSize}
@@ -22,6 +22,7 @@ use Rattle.matrix.specs.Message.{Message, Sound}
 use Rattle.protocol.proofs.Bounds.{entry-bound, issue-sound}
 use Rattle.protocol.proofs.Good.{Good, Origin, stateOf}
 use Rattle.protocol.proofs.Lists.{map-at}
+use Rattle.protocol.proofs.Origins.{Apart}
 use Rattle.wire.proofs.Tests.{of-false}
 use Rattle.wire.specs.Bytes.{AllBytes}
 use Rattle.protocol.specs.World as messages

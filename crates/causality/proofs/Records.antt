@@ -2,13 +2,12 @@
 use Prim.Native.Nat.{_<_, _≤_, suc, zero, ℕ}
 use mathlib.Core.Bool.{false, not}
 use mathlib.Core.List.{List, []}
-use mathlib.Core.Path.{_∙_, _≡_, ap, fun-ext, refl, subst, sym}
+use mathlib.Core.Path.{_∙_, _≡_, fun-ext, refl, subst, sym}
 use native.Mathlib.Decide.{decLt}
-use native.Mathlib.Nat.{zero-add}
 use native.Mathlib.Omega.{arith}
 use lib.Dec.{T}
 use lib.ListN.{List·getD-eq-default, getD, length}
-use Rattle.matrix.proofs.Array.{getD-list, length-list}
+use Rattle.matrix.proofs.Array.{length-list, vector-list}
 use Rattle.matrix.proofs.Cleared.{rules-back}
 use Rattle.matrix.specs.Array.{entry, flat, listFrom, vector}
 use Rattle.matrix.specs.Matrix.{Matrix}
@@ -62,7 +61,7 @@ module _ (n cap : ℕ) (w : messages.World) (g : Good n (λ i. cap) w) (few : le
   vector-back = fun-ext (λ x. go x (decLt x 12))
     where
       go : (x : ℕ) → Dec (x < 12) → getD (listFrom 0 12 (w .nodes i .deliv)) x 0 ≡ w .nodes i .deliv x
-      go x (yes h) = getD-list 0 12 (w .nodes i .deliv) x h ∙ ap (w .nodes i .deliv) (zero-add x)
+      go x (yes h) = vector-list (w .nodes i .deliv) x h
       go x (no h) =
           List·getD-eq-default (listFrom 0 12 (w .nodes i .deliv)) 0 {n = x} (omega (arith, length-list 0 12 (w .nodes i .deliv)))
           ∙ sym (deliv-from x (omega (arith, range .atMost12)))

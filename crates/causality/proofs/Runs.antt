@@ -12,7 +12,7 @@ use Rattle.causality.proofs.Matches.{Matches, empty, encodeIssue}
 use Rattle.causality.proofs.Records.{in-range, recordOf}
 use Rattle.causality.proofs.Steps.{deliver-matches, deliver-matches-short, forget, lentLess, offer-matches, send-matches, send-matches-short}
 use Rattle.causality.specs.Demand3.{BodiesOfBytes, Issue, Step, World, deliverAt, delivers, offerIssue, offers, run, sendAt, sends, start, step}
-use Rattle.holdback.specs.Slots.{laid, queueSize, slots, zeros}
+use Rattle.holdback.proofs.Slots.{zeros-laid}
 use Rattle.matrix.specs.Array.{flat}
 use Rattle.matrix.specs.Message.{InRange}
 use Rattle.node.specs.Calls.{deliverCall, sendCall}
@@ -102,21 +102,17 @@ run-matches n cap (delivers i out body ∷ l) bytes w b g few m =
     (step-good n (λ i. cap) w (forget (delivers i out body)) g)
     (omega (arith, run-length n w (forget (delivers i out body) ∷ []))) (deliver-step n cap w b g (omega arith) m i out body)
 
--- set-up's records and queues of zeros are those of fresh nodes
+-- set-up's records are those of fresh nodes
 fresh-record : (me n cap : ℕ) → freshRecord me n cap ≡ recordOf (fresh me n cap)
 unfolding flat
 fresh-record me n cap = refl
-
-empty-queue : zeros queueSize ≡ laid []
-unfolding zeros slots
-empty-queue = refl
 
 pub start-matches : (n cap : ℕ) → InRange n cap → Matches n (messages.start n (λ i. cap)) (start n cap)
 unfolding setUp
 start-matches n cap r = record {
   records = λ k h. ap (λ (x : SetUp). x .node) (cond-yes (inRange k n cap) (record { answer = Ready; node = freshRecord k n cap })
       (record { answer = Refused 1; node = freshRecord 0 0 0 }) (range-T k n cap (in-range k n cap h r))) ∙ fresh-record k n cap;
-  queues = λ k h. empty-queue;
+  queues = λ k h. zeros-laid;
   log = refl;
   history = empty;
   bodies = λ p f e. absurd (at-none p f e);

@@ -8,6 +8,7 @@ pub mod Rising
 pub mod Parse
 pub mod Written
 pub mod Reading
+pub mod Carried
 pub mod RoundTrip
 pub mod Framing
 pub mod Frames

@@ -2,11 +2,10 @@
 use Prim.Native.Nat.{_≤_, suc, zero, ℕ}
 use mathlib.Core.Bool.{_||_, false, not}
 use mathlib.Core.List.{List, [], _∷_, map}
-use mathlib.Core.Logic.{_⊎_, inl, inr}
 use mathlib.Core.Option.{some}
 use mathlib.Core.Path.{_∙_, _≡_, ap, refl, subst, sym}
 use native.Mathlib.Omega.{arith}
-use lib.Dec.{T, T-not, eqb, eqb-refl, eqb→eq, not-T}
+use lib.Dec.{T, eqb, eqb-refl, not-T}
 use lib.ListN.{getElem?, length}
 use Rattle.arrival.specs.View.{arrivalRefusal}
 use Rattle.frame.specs.Frame.{decode}
@@ -17,10 +16,11 @@ use Rattle.holdback.specs.WrongQueue.{heldRefused, sameBytes, someAlike,
 use Rattle.holdback.specs.Slots.{laid, without}
 use Rattle.matrix.specs.Message.{Message, number}
 use Rattle.protocol.proofs.Lists.{at-none}
+use Rattle.protocol.proofs.Origins.{Apart, origin-at, other-origin}
 use Rattle.protocol.proofs.Searching.{skip}
 use Rattle.protocol.specs.Node.{Node}
-use Rattle.protocol.specs.Offer.{sameOrigin, someSameOrigin}
-use Rattle.wire.proofs.Tests.{T-and, T-not-not, and-T, either-T, eq→eqb, is-false, not-or, or-T, or-not}
+use Rattle.protocol.specs.Offer.{someSameOrigin}
+use Rattle.wire.proofs.Tests.{T-and, T-not-not, eq→eqb, is-false, not-or, or-not}
 use Rattle.wire.specs.Limits.{maxHeld}
 
 -- a property of each frame of a list, place by place
@@ -52,35 +52,7 @@ pub framed-all : (d : Node) (l : List (List ℕ)) → EachFrame (FrameKept d) l 
 framed-all d [] f = tt
 framed-all d (s ∷ l) f = (passes-framed (d .n) (d .cap) s (f 0 s refl .passes), framed-all d l (λ h t a. f (suc h) t a))
 
--- messages no two of which agree in from and number
-abbrev pub Apart : List Message → Type 0
-Apart l = (h k : ℕ) (a b : Message) → getElem? l h ≡ some a → getElem? l k ≡ some b → a .from ≡ b .from → number a ≡ number b → h ≡ k
-
--- a message of a list with the from and number of m
-origin-at : (l : List Message) (m : Message) → T (someSameOrigin l m)
-    → (h : ℕ) × (a : Message) × (getElem? l h ≡ some a) × (a .from ≡ m .from) × (number a ≡ number m)
-origin-at [] m t = absurd t
-origin-at (a ∷ l) m t = go (or-T (sameOrigin a m) (someSameOrigin l m) t) (λ q. origin-at l m q)
-  where
-    go : T (sameOrigin a m) ⊎ T (someSameOrigin l m)
-        → (T (someSameOrigin l m) → (h : ℕ) × (b : Message) × (getElem? l h ≡ some b) × (b .from ≡ m .from) × (number b ≡ number m))
-        → (h : ℕ) × (b : Message) × (getElem? (a ∷ l) h ≡ some b) × (b .from ≡ m .from) × (number b ≡ number m)
-    go (inl q) ih =
-        let r = and-T (eqb (a .from) (m .from)) (eqb (number a) (number m)) q in
-        (0, a, refl, eqb→eq (a .from) (m .from) (r .0), eqb→eq (number a) (number m) (r .1))
-    go (inr q) ih = let r = ih q in (suc (r .0), r .1, r .2, r .3, r .4)
-
-pub origin-some : (l : List Message) (m : Message) (h : ℕ) (a : Message) → getElem? l h ≡ some a → a .from ≡ m .from
-    → number a ≡ number m → T (someSameOrigin l m)
-origin-some [] m h a e f k = absurd (at-none h a e)
-origin-some (b ∷ l) m zero a e f k =
-    let z : a ≡ b = cc in
-    either-T (sameOrigin b m) (someSameOrigin l m)
-    (inl (subst (λ (x : Message). T (sameOrigin x m)) z
-    (T-and (eqb (a .from) (m .from)) (eqb (number a) (number m)) (eq→eqb (a .from) (m .from) f) (eq→eqb (number a) (number m) k))))
-origin-some (b ∷ l) m (suc h) a e f k = either-T (sameOrigin b m) (someSameOrigin l m) (inr (origin-some l m h a e f k))
-
--- of such messages it is not the case that two agree, and the other way round
+-- of messages that differ in from or number it is not the case that two agree, and the other way round
 none-alike : (l : List Message) → Apart l → T (not (someAlike l))
 unfolding someAlike
 none-alike [] d = tt
@@ -95,12 +67,10 @@ alike-none [] t h k a b x y f n = absurd (at-none h a x)
 alike-none (m ∷ l) t zero zero a b x y f n = refl
 alike-none (m ∷ l) t zero (suc k) a b x y f n =
     let z : m ≡ a = cc in
-    absurd (T-not (someSameOrigin l m) (or-not (someSameOrigin l m) (someAlike l) t .0)
-    (origin-some l m k b y (sym f ∙ ap (λ (g : Message). g .from) (sym z)) (sym n ∙ ap number (sym z))))
+    absurd (other-origin l m (or-not (someSameOrigin l m) (someAlike l) t .0) k b y (sym f ∙ ap (λ (g : Message). g .from) (sym z)) (sym n ∙ ap number (sym z)))
 alike-none (m ∷ l) t (suc h) zero a b x y f n =
     let z : m ≡ b = cc in
-    absurd (T-not (someSameOrigin l m) (or-not (someSameOrigin l m) (someAlike l) t .0)
-    (origin-some l m h a x (f ∙ ap (λ (g : Message). g .from) (sym z)) (n ∙ ap number (sym z))))
+    absurd (other-origin l m (or-not (someSameOrigin l m) (someAlike l) t .0) h a x (f ∙ ap (λ (g : Message). g .from) (sym z)) (n ∙ ap number (sym z)))
 alike-none (m ∷ l) t (suc h) (suc k) a b x y f n = ap suc (alike-none l (or-not (someSameOrigin l m) (someAlike l) t .1) h k a b x y f n)
 
 -- a list of bytes is the same as itself

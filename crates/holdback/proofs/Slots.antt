@@ -7,7 +7,7 @@ use lib.ListN.{List·getD-append, drop, length, length-append, length-replicate,
 use lib.Seq.{drop-at, take-append-seam, take-at}
 use Rattle.frame.specs.Header.{header, ownLength}
 use Rattle.frame.specs.declared.header.Header.{Header}
-use Rattle.holdback.specs.Slots.{frameIn, heldFrames, padded, slots, zeros}
+use Rattle.holdback.specs.Slots.{frameIn, heldFrames, laid, padded, queueSize, slots, zeros}
 use Rattle.wire.specs.Limits.{maxFrame}
 
 -- k zeros
@@ -61,6 +61,11 @@ unfolding slots
 length-slots zero l f = refl
 length-slots (suc k) [] f = omega (arith, length-append (zeros maxFrame) (slots k []), length-zeros maxFrame, length-slots k [] tt)
 length-slots (suc k) (s ∷ l) f = omega (arith, length-append (padded s) (slots k l), length-padded s (f .0), length-slots k l (f .1))
+
+-- with no frame they are zeros
+pub zeros-laid : zeros queueSize ≡ laid []
+unfolding zeros slots
+zeros-laid = refl
 
 -- a header is read from the first eight bytes
 pub header-append : (s r : List ℕ) → 8 ≤ length s → header (s ++ r) ≡ header s

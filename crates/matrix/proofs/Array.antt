@@ -10,7 +10,7 @@ use lib.Dec.{eqb, eqb-refl, eqb→eq, ltb, ltb→lt, lt→ltb, not-T}
 use lib.ListN.{drop, getD, length, length-set, set, take}
 use lib.Seq.{ext-getD, getD-set-other, getD-set-same}
 use Rattle.matrix.proofs.Sums.{sum-rows, sum-swap, sum-upto}
-use Rattle.matrix.specs.Array.{entry, flat, listFrom}
+use Rattle.matrix.specs.Array.{entry, flat, listFrom, vector}
 use Rattle.matrix.specs.Matrix.{Matrix, columnCount, count, nonZero, sum}
 use Rattle.wire.proofs.Bytes.{rest}
 use Rattle.wire.proofs.Tests.{T-and, and-T, cond-no, cond-yes}
@@ -26,6 +26,9 @@ getD-list k (suc r) f zero h = rw add-zero
 getD-list k (suc r) f (suc i) h =
     let e : k + 1 + i ≡ k + suc i = omega arith in
     getD-list (k + 1) r f i (omega arith) ∙ ap f e
+
+pub vector-list : (f : ℕ → ℕ) (x : ℕ) → x < 12 → vector (listFrom 0 12 f) x ≡ f x
+vector-list f x h = getD-list 0 12 f x h ∙ ap f (zero-add x)
 
 pub list-ext : (k r : ℕ) (f g : ℕ → ℕ) → ((i : ℕ) → k ≤ i → i < k + r → f i ≡ g i) → listFrom k r f ≡ listFrom k r g
 list-ext k zero f g h = refl

@@ -67,6 +67,15 @@ clear-lower i j m x y ne = go (ℕ-discrete y j)
     go (yes e) = rw e (omega (arith, clear-gone i j m x ne))
     go (no e) = omega (arith, clear-keep i j m x y e)
 
+-- a limit that the row of the issuing node has not reached in column j stays one
+pub clear-limit : (i j k : ℕ) (m : Matrix) → ((x y : ℕ) → m x y ≤ k) → m i j < k → (x y : ℕ) → clear i j m x y ≤ k
+clear-limit i j k m l b x y = go (ℕ-discrete y j) (ℕ-discrete x i)
+  where
+    go : Dec (y ≡ j) → Dec (x ≡ i) → clear i j m x y ≤ k
+    go (yes p) (yes q) = rw (p, q, clear-mine) b
+    go (yes p) (no q) = rw (p, clear-gone i j m x q) (omega arith)
+    go (no p) d = rw (clear-keep i j m x y p) (l x y)
+
 -- a column has at most twelve entries
 pub column-le : (m : Matrix) (y : ℕ) → columnCount m y ≤ 12
 unfolding columnCount

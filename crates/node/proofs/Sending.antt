@@ -3,7 +3,6 @@ use Prim.Native.Nat.{_*_, _+_, _-_, _<_, _≤_, suc, ℕ}
 use mathlib.Core.Bool.{Bool, _||_, cond, false, not, or-true, true}
 use mathlib.Core.List.{List, [], _∷_}
 use mathlib.Core.Path.{_∙_, _≡_, ap, refl, sym}
-use native.Mathlib.Decide.{ℕ-discrete}
 use native.Mathlib.Omega.{arith}
 use borrow.Author.Tests.{eq-eqb, le-ltb, lt-ltb, ne-eqb}
 use lib.Dec.{eqb, ltb, ltb→lt, nltb→le}
@@ -14,8 +13,7 @@ use Rattle.frame.specs.Frame.{encode}
 use Rattle.frame.specs.Frames.{framesOf}
 use Rattle.matrix.proofs.Array.{entry-back}
 use Rattle.matrix.proofs.Bounds.{count-121}
-use Rattle.matrix.proofs.Cleared.{inside-clear, inside-entry}
-use Rattle.matrix.proofs.Matrix.{clear-gone, clear-keep, clear-mine}
+use Rattle.matrix.proofs.Cleared.{clear-limit, inside-clear, inside-entry}
 use Rattle.matrix.specs.Array.{entry, flat, vector}
 use Rattle.matrix.specs.Matrix.{Matrix, clear, count}
 use Rattle.matrix.specs.Message.{Message, number, userMessage}
@@ -179,12 +177,7 @@ pub cleared-limit : (r : Record) (to : ℕ) (m₁ : List ℕ) → r .me < 12 →
     → m₁ ≡ flat (clear (r .me) to (entry (r .m))) → (x y : ℕ) → entry m₁ x y ≤ maxCount
 cleared-limit r to m₁ h k l b e x y =
     rw (ap entry e ∙ entry-back (clear (r .me) to (entry (r .m))) (inside-clear (r .me) to (entry (r .m)) h k (inside-entry (r .m))))
-    (go (ℕ-discrete y to) (ℕ-discrete x (r .me)))
-  where
-    go : Dec (y ≡ to) → Dec (x ≡ r .me) → clear (r .me) to (entry (r .m)) x y ≤ maxCount
-    go (yes p) (yes q) = rw (p, q, clear-mine) b
-    go (yes p) (no q) = rw (p, clear-gone (r .me) to (entry (r .m)) x q) (omega arith)
-    go (no p) d = rw (clear-keep (r .me) to (entry (r .m)) x y p) (l x y)
+    (clear-limit (r .me) to maxCount (entry (r .m)) l b x y)
 
 -- a sound record's matrix has at most 121 entries
 pub frame-room : {r : Record} {to body out : ℕ} → Sendable r to body out → count (entry (r .m)) ≤ 121

@@ -3,7 +3,6 @@ use Prim.Native.Nat.{_*_, _+_, _-_, _<_, _≤_, suc, ℕ}
 use mathlib.Core.List.{List, []}
 use mathlib.Core.Path.{_∙_, _≡_, ap, refl, sym}
 use native.Mathlib.Decide.{ℕ-discrete}
-use native.Mathlib.Nat.{zero-add}
 use native.Mathlib.Omega.{arith}
 use borrow.Author.Tests.{eq-eqb, ne-eqb}
 use lib.ListN.{drop, getD, length, length-drop, length-set, set, take}
@@ -21,7 +20,7 @@ use Rattle.frame.specs.Frame.{decode}
 use Rattle.frame.specs.Frames.{framesOf}
 use Rattle.frame.specs.Header.{header, kindByte, kindOf}
 use Rattle.frame.specs.declared.header.Header.{Header}
-use Rattle.matrix.proofs.Array.{entry-back, flat-back, getD-list, length-list}
+use Rattle.matrix.proofs.Array.{entry-back, flat-back, vector-list, length-list}
 use Rattle.matrix.proofs.Cleared.{Inside, inside-entry}
 use Rattle.matrix.proofs.Matrix.{merge-max, merge-own}
 use Rattle.matrix.specs.Array.{entry, flat, listFrom, vector}
@@ -109,7 +108,7 @@ count-up v from l h =
     ext-getD 0 (set v from (getD v from 0 + 1)) (listFrom 0 12 (countUp from (vector v)))
     (length-set v from (getD v from 0 + 1) ∙ l ∙ sym (length-list 0 12 (countUp from (vector v))))
     (λ i k. let b : i < 12 = omega (arith, length-set v from (getD v from 0 + 1)) in
-    go i (ℕ-discrete i from) ∙ sym (getD-list 0 12 (countUp from (vector v)) i b ∙ ap (countUp from (vector v)) (zero-add i)))
+    go i (ℕ-discrete i from) ∙ sym (vector-list (countUp from (vector v)) i b))
   where
     go : (i : ℕ) → Dec (i ≡ from) → getD (set v from (getD v from 0 + 1)) i 0 ≡ countUp from (vector v) i
     go i (yes e) = rw (e, cond-same from (suc (getD v from 0)) (getD v from 0), getD-set-same v from (getD v from 0 + 1) 0 (omega arith)) (omega arith)

@@ -9,6 +9,7 @@ use lib.ListN.{length, getElem?}
 use Rattle.matrix.proofs.Columns.{MatrixRules}
 use Rattle.matrix.specs.Matrix.{Matrix, count}
 use Rattle.matrix.specs.Message.{extra, Message, number, InRange}
+use Rattle.protocol.proofs.Origins.{Apart}
 use Rattle.protocol.proofs.State.{State, Invariant}
 use Rattle.protocol.specs.Answer.{accepted}
 use Rattle.protocol.specs.Demand3.{offersAccepted, deliveries, answersAt}
@@ -56,7 +57,7 @@ pub record SoundQueue (log : List Issue) (history : List Event) (k : ℕ) (v : �
   pub from : (h : ℕ) (m : Message) → getElem? s h ≡ some m → Origin log history m
   pub to : (h : ℕ) (m : Message) → getElem? s h ≡ some m → m .to ≡ k
   pub above : (h : ℕ) (m : Message) → getElem? s h ≡ some m → v (m .from) < number m
-  pub distinct : (h h′ : ℕ) (m m′ : Message) → getElem? s h ≡ some m → getElem? s h′ ≡ some m′ → m .from ≡ m′ .from → number m ≡ number m′ → h ≡ h′
+  pub distinct : Apart s
   pub room : length s ≤ 16
   pub ready : length s ≡ 16 → (h : ℕ) × (m : Message) × (getElem? s h ≡ some m) × ((x : ℕ) → x < 12 → m .entries x k ≤ v x)
 

@@ -7,12 +7,13 @@ pub mod Quiet
 pub mod Delivering
 pub mod Trim
 pub mod Below
+pub mod Searching
+pub mod Origins
 pub mod Good
 pub mod Rounds
 pub mod Grown
 pub mod Sending
 pub mod Offering
-pub mod Searching
 pub mod Learning
 pub mod Bounds
 pub mod Taking

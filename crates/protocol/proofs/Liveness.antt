@@ -2,27 +2,27 @@
 -- With fewer than 1,000,000,000 steps an offer of it is accepted, or a deliver at its destination delivers a message.
 use Prim.Native.Nat.{ℕ, zero, suc, _≤_, _<_}
 use mathlib.Core.Bool.{true, not, cond, _&&_}
-use mathlib.Core.List.{List, [], _∷_}
 use mathlib.Core.Logic.{_⊎_, inl, inr}
 use mathlib.Core.Option.{Option, none, some}
 use mathlib.Core.Path.{_≡_, refl, sym, ap, subst, _∙_}
 use native.Mathlib.Decide.{ℕ-discrete, decLe}
 use native.Mathlib.Omega.{arith}
-use lib.Dec.{T, eqb, T-not, not-T, eqb→eq, eqb-refl}
+use lib.Dec.{T, eqb, T-not, not-T, eqb-refl}
 use lib.ListN.{length, getElem?}
 use Rattle.matrix.specs.Message.{Message, number}
 use Rattle.protocol.proofs.Bounds.{below-limit, claims-little}
 use Rattle.protocol.proofs.Good.{Origin, SoundNode, Kept, Good}
 use Rattle.protocol.proofs.Grown.{nodeAt, node-eq}
 use Rattle.protocol.proofs.Offering.{le-deliverable}
+use Rattle.protocol.proofs.Origins.{origin-at}
 use Rattle.protocol.proofs.Searching.{search-found, search-absent}
 use Rattle.protocol.specs.Answer.{label, accepted, delivery, Outcome, refuse}
 use Rattle.protocol.specs.Deliver.{Search, absent, found, search, conclude, deliver}
 use Rattle.protocol.specs.Demand3.{Delivered, Held, heldAt, QueueAgrees, Earliest, DeliversNew}
 use Rattle.protocol.specs.Node.{Node, atLimit}
-use Rattle.protocol.specs.Offer.{deliverable, notForMe, claimsTooMuch, deliveredBefore, sameOrigin, someSameOrigin, heldAlready, noRoom, holding, offer}
+use Rattle.protocol.specs.Offer.{deliverable, notForMe, claimsTooMuch, deliveredBefore, heldAlready, noRoom, holding, offer}
 use Rattle.protocol.specs.World.{Issue, World, IssueAt}
-use Rattle.wire.proofs.Tests.{T-not-not, and-T, cond-no, lt→nleb, ne→neqb, not-or, or-T}
+use Rattle.wire.proofs.Tests.{T-not-not, and-T, cond-no, lt→nleb, ne→neqb, not-or}
 use Rattle.wire.specs.Limits.{maxHeld}
 
 module _ (n : ℕ) (caps : ℕ → ℕ) (w : World) (g : Good n caps w) where
@@ -175,22 +175,6 @@ module _ (n : ℕ) (caps : ℕ → ℕ) (w : World) (g : Good n caps w) where
           let m : a ≡ f .message = sym (o .3) ∙ ap (λ (z : Issue). z .message) z in
           subst (λ (z : Message). Held w p z) m (subst (λ (z : ℕ). Held w z a) q (o .5))
 
-      held-already : (l : List Message) → T (someSameOrigin l (f .message))
-          → ((h : ℕ) (a : Message) → getElem? l h ≡ some a → a .from ≡ f .message .from → number a ≡ number (f .message) → Held w p (f .message))
-          → Held w p (f .message)
-      held-already [] t k = absurd t
-      held-already (a ∷ l) t k = go (or-T (sameOrigin a (f .message)) (someSameOrigin l (f .message)) t) (held-already l)
-        where
-          go : T (sameOrigin a (f .message)) ⊎ T (someSameOrigin l (f .message))
-              → (T (someSameOrigin l (f .message))
-              → ((h : ℕ) (a : Message) → getElem? l h ≡ some a → a .from ≡ f .message .from → number a ≡ number (f .message)
-              → Held w p (f .message)) → Held w p (f .message))
-              → Held w p (f .message)
-          go (inl q) ih =
-              let r = and-T (eqb (a .from) (f .message .from)) (eqb (number a) (number (f .message))) q in
-              k 0 a refl (eqb→eq (a .from) (f .message .from) (r .0)) (eqb→eq (number a) (number (f .message)) (r .1))
-          go (inr q) ih = ih q (λ h b at s n. k (suc h) b at s n)
-
       -- an offer of it is accepted
       pub accepts-first : ¬ Held w p (f .message) → heldAt w i < maxHeld → accepted ((offer (w .nodes i) (f .message)) .answer) ≡ true
       unfolding offer
@@ -200,7 +184,8 @@ module _ (n : ℕ) (caps : ℕ → ℕ) (w : World) (g : Good n caps w) where
           (cond-no (notForMe d (f .message)) (refuse 12 d) t₂ (T-not-not (eqb i i) (eqb-refl i))
           ∙ cond-no (claimsTooMuch d (f .message)) (refuse 13 d) t₃ (claims-little n caps w g p f at i)
           ∙ cond-no (deliveredBefore d (f .message)) (refuse 14 d) t₄ (lt→nleb (number (f .message)) (w .nodes i .deliv (f .message .from)) above)
-          ∙ cond-no (heldAlready d (f .message)) (refuse 15 d) t₅ (not-T (heldAlready d (f .message)) (λ t. free (held-already (w .nodes i .held) t same-held)))
+          ∙ cond-no (heldAlready d (f .message)) (refuse 15 d) t₅
+          (not-T (heldAlready d (f .message)) (λ t. let r = origin-at (w .nodes i .held) (f .message) t in free (same-held (r .0) (r .1) (r .2) (r .3) (r .4))))
           ∙ cond-no (noRoom d (f .message)) (refuse 16 d) (holding d (f .message)) has-room))
         where
           t₅ : Outcome

@@ -1,22 +1,22 @@
 -- An offer keeps a world good.
-use Prim.Native.Nat.{ℕ, zero, suc, _≤_, _<_}
+use Prim.Native.Nat.{ℕ, suc, _≤_, _<_}
 use mathlib.Core.Bool.{true, not, cond, _&&_}
 use mathlib.Core.List.{List, [], _∷_, _++_}
 use mathlib.Core.Logic.{_⊎_, inl, inr}
-use mathlib.Core.Option.{some}
-use mathlib.Core.Path.{_≡_, refl, sym, ap, subst, _∙_}
+use mathlib.Core.Path.{_≡_, refl, sym, ap, subst}
 use native.Mathlib.Omega.{arith}
 use lib.Dec.{eqb, T, le→leb, leb→le, nleb→lt, leb, eqb→eq, T-not}
-use lib.ListN.{getElem?, length}
+use lib.ListN.{length}
 use Rattle.matrix.specs.Message.{Message, number}
 use Rattle.protocol.proofs.Below.{each-all, all-each, answers-here}
 use Rattle.protocol.proofs.Good.{Origin, SoundQueue, SoundNode, Kept, Good}
 use Rattle.protocol.proofs.Grown.{queue-grow, good-grown, quiet-grown, none-sound, refuse-good, nodeAt, node-eq}
-use Rattle.protocol.proofs.Lists.{at-none, at-left, at-last, Snoc, at-snoc, each-snoc, length-snoc}
+use Rattle.protocol.proofs.Lists.{at-left, at-last, each-snoc, length-snoc}
+use Rattle.protocol.proofs.Origins.{apart-snoc}
 use Rattle.protocol.specs.Answer.{taken, Outcome, refuse}
 use Rattle.protocol.specs.Demand3.{offersAccepted, deliveries}
 use Rattle.protocol.specs.Node.{Node}
-use Rattle.protocol.specs.Offer.{deliverable, notForMe, claimsTooMuch, deliveredBefore, sameOrigin, someSameOrigin, heldAlready, noRoom, holding, offer}
+use Rattle.protocol.specs.Offer.{deliverable, notForMe, claimsTooMuch, deliveredBefore, someSameOrigin, heldAlready, noRoom, holding, offer}
 use Rattle.protocol.specs.World.{offers, Issue, Event, World, IssueAt, afterStep}
 use Rattle.wire.proofs.Tests.{not-not, decide, cond-elim, neqb→ne, eq→eqb, T-and, or-not}
 
@@ -30,16 +30,6 @@ pub le-deliverable : (d : Node) (m : Message) → ((x : ℕ) → x < 12 → m .e
 unfolding deliverable
 le-deliverable d m f = all-each 12 (λ x. leb (m .entries x (d .me)) (d .deliv x)) (λ x h. le→leb (m .entries x (d .me)) (d .deliv x) (f x h))
 
--- where no message of the list has f's from and number, none has
-other-origin : (l : List Message) (f : Message) → T (not (someSameOrigin l f)) → (h : ℕ) (a : Message) → getElem? l h ≡ some a
-    → a .from ≡ f .from → number a ≡ number f → ⊥
-other-origin [] f t h a e p q = at-none h a e
-other-origin (b ∷ l) f t zero a e p q =
-    let z : b ≡ a = cc in
-    T-not (sameOrigin b f) ((or-not (sameOrigin b f) (someSameOrigin l f) t) .0)
-    (T-and (eqb (b .from) (f .from)) (eqb (number b) (number f)) (eq→eqb (b .from) (f .from) (cc)) (eq→eqb (number b) (number f) (ap number z ∙ q)))
-other-origin (b ∷ l) f t (suc h) a e p q = other-origin l f ((or-not (sameOrigin b f) (someSameOrigin l f) t) .1) h a e p q
-
 -- one more message in the queue
 queue-snoc : (log : List Issue) (history : List Event) (k : ℕ) (v : ℕ → ℕ) (s : List Message) (f : Message) → SoundQueue log history k v s
     → Origin log history f → f .to ≡ k → v (f .from) < number f
@@ -49,20 +39,10 @@ queue-snoc log history k v s f q from to above free room ready =
       from = each-snoc (λ (a : Message). Origin log history a) s f (q .from) from;
       to = each-snoc (λ (a : Message). a .to ≡ k) s f (q .to) to;
       above = each-snoc (λ (a : Message). v (a .from) < number a) s f (q .above) above;
-      distinct = distinct′;
+      distinct = apart-snoc s f (q .distinct) free;
       room = rw length-snoc (omega arith);
       ready = λ e. (length s, f, at-last s f, ready (omega (arith, length-snoc s f)));
     }
-  where
-    distinct′ : (h h′ : ℕ) (a b : Message) → getElem? (s ++ (f ∷ [])) h ≡ some a → getElem? (s ++ (f ∷ [])) h′ ≡ some b
-        → a .from ≡ b .from → number a ≡ number b → h ≡ h′
-    distinct′ h h′ a b e e′ p n = go (at-snoc s f h a e) (at-snoc s f h′ b e′)
-      where
-        go : Snoc s f h a → Snoc s f h′ b → h ≡ h′
-        go (inl x) (inl y) = q .distinct h h′ a b x y p n
-        go (inl x) (inr y) = absurd (other-origin s f free h a x (cc) (n ∙ ap number (y .1)))
-        go (inr x) (inl y) = absurd (other-origin s f free h′ b y (cc) (sym n ∙ ap number (x .1)))
-        go (inr x) (inr y) = cc
 
 -- an offer that is not refused, at node i, of issue p
 module _ (n : ℕ) (caps : ℕ → ℕ) (w : World) (g : Good n caps w) (i : ℕ) (hi : i < n) (p : ℕ) (l : Issue) (at : IssueAt w p l) where

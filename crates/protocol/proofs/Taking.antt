@@ -18,7 +18,8 @@ use Rattle.protocol.proofs.Learning.{learned, learned-rules, learned-ca
 use Rattle.protocol.proofs.Lists.{length-snoc}
 use Rattle.protocol.proofs.Offering.{deliverable-le}
 use Rattle.protocol.proofs.Rounds.{putMatrix, putMatrix-same, putMatrix-other, rounds-invariant, rounds-sound}
-use Rattle.protocol.proofs.Searching.{skip, skip-ne, skip-inj, unskip, Removed, search-found}
+use Rattle.protocol.proofs.Origins.{above-removed, apart-removed, removed-at}
+use Rattle.protocol.proofs.Searching.{skip, unskip, Removed, search-found}
 use Rattle.protocol.proofs.State.{Invariant}
 use Rattle.protocol.proofs.Trim.{Rounds, rounds-rules, rounds-row}
 use Rattle.protocol.specs.Answer.{label, nothing, delivered, Outcome, refuse}
@@ -165,7 +166,7 @@ module _ (n : ℕ) (caps : ℕ → ℕ) (w : World) (g : Good n caps w) (p : ℕ
 
   -- what is left of the queue was in it
   held : (q : ℕ) (a : Message) → getElem? l q ≡ some a → getElem? (w .nodes i .held) (skip h q) ≡ some a
-  held q a z = sym (removed .rest q) ∙ z
+  held q a z = removed-at (w .nodes i .held) h f l removed (ok .queue .distinct) q a z
 
   -- the message is the next from its sender
   next : number f ≡ suc (w .nodes i .deliv (f .from))
@@ -176,19 +177,11 @@ module _ (n : ℕ) (caps : ℕ → ℕ) (w : World) (g : Good n caps w) (p : ℕ
   queue′ = record {
     from = λ q a z. ok .queue .from (skip h q) a (held q a z);
     to = λ q a z. ok .queue .to (skip h q) a (held q a z);
-    above = λ q a z. above q a z (ℕ-discrete (a .from) (f .from));
-    distinct = λ q q′ a b z z′ s n. skip-inj h q q′ (ok .queue .distinct (skip h q) (skip h q′) a b (held q a z) (held q′ b z′) s n);
+    above = above-removed (w .nodes i .held) h f l removed (ok .queue .distinct) (w .nodes i .deliv) next (ok .queue .above);
+    distinct = apart-removed (w .nodes i .held) h f l removed (ok .queue .distinct);
     room = omega (arith, removed .fewer, ok .queue .room);
     ready = λ z. absurd (omega (arith, removed .fewer, ok .queue .room));
   }
-    where
-      above : (q : ℕ) (a : Message) → getElem? l q ≡ some a → Dec (a .from ≡ f .from) → countUp (f .from) (w .nodes i .deliv) (a .from) < number a
-      above q a z (no s) = rw (countUp-other (f .from) (w .nodes i .deliv) (a .from) s) (ok .queue .above (skip h q) a (held q a z))
-      above q a z (yes s) =
-          let old : w .nodes i .deliv (a .from) < number a = ok .queue .above (skip h q) a (held q a z) in
-          let old′ : w .nodes i .deliv (f .from) < number a = subst (λ (n : ℕ). w .nodes i .deliv n < number a) s old in
-          let ne : number a ≢ number f = λ n. skip-ne h q (ok .queue .distinct (skip h q) h a f (held q a z) (removed .at) s n) in
-          subst (λ (n : ℕ). countUp (f .from) (w .nodes i .deliv) n < number a) (sym s) (rw (countUp-same (f .from) (w .nodes i .deliv)) (omega (arith, next)))
 
   -- the node keeps its rules
   taking-node : SoundNode n (caps i) (w .log ++ map (issuedBy t) (r .extras)) (w .history ++ (e ∷ [])) i d′

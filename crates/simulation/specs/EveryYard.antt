@@ -20,7 +20,7 @@ pub record YardWorld (n cap k : ℕ) (w : World) : Type 0 where
   pub reached : Reached n cap k w
   pub demand3 : Demand3For n cap w
 
--- for every n and cap that a yard can start with, and all lines; an input of 4,096 bytes has at most 4,096
+-- for every n and cap that a yard can start with, and any lines (an input of 4,096 bytes has at most 4,096 of them)
 abbrev pub EveryYard : Type 0
 EveryYard = (n cap : ℕ) → startable n (cap ∷ cap ∷ cap ∷ cap ∷ []) ≡ true → (ls : List (List ℕ)) → length ls < 1000000000
     → YardWorld n cap (length ls) (afterLines n (opened n cap) ls .world)

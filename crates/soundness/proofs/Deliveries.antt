@@ -3,21 +3,21 @@ use Prim.Native.Nat.{_-_, _<_, _≤_, suc, ℕ}
 use mathlib.Core.Bool.{not}
 use mathlib.Core.List.{List, map}
 use mathlib.Core.Option.{some}
-use mathlib.Core.Path.{_∙_, _≡_, ap, subst, sym}
+use mathlib.Core.Path.{_∙_, _≡_, subst, sym}
 use native.Mathlib.Decide.{ℕ-discrete}
-use native.Mathlib.Nat.{zero-add}
 use native.Mathlib.Omega.{arith}
 use lib.Dec.{T}
 use lib.ListN.{getElem?, length, length-map}
 use Rattle.arrival.proofs.Arrived.{Arrives, arrives}
+use Rattle.frame.proofs.Carried.{Carried, carried}
 use Rattle.frame.specs.Frame.{decode}
 use Rattle.holdback.proofs.Held.{FrameKept, held-kept, queue-kept}
-use Rattle.holdback.proofs.Passing.{Apart, EachFrame, without-at}
+use Rattle.holdback.proofs.Passing.{EachFrame, without-at}
 use Rattle.holdback.proofs.Queues.{found-held, length-without}
 use Rattle.holdback.proofs.Searched.{found-none}
 use Rattle.holdback.specs.Places.{frameAt, placeOf}
 use Rattle.holdback.specs.Slots.{heldMessages, laid, without}
-use Rattle.matrix.proofs.Array.{getD-list}
+use Rattle.matrix.proofs.Array.{vector-list}
 use Rattle.matrix.specs.Array.{entry, flat, listFrom, vector}
 use Rattle.matrix.specs.Message.{Message, number}
 use Rattle.node.proofs.Delivering.{searched}
@@ -26,23 +26,19 @@ use Rattle.node.specs.Calls.{acceptDeliver}
 use Rattle.node.specs.Record.{nodeAt}
 use Rattle.node.specs.declared.Node.{Node as Record}
 use Rattle.protocol.proofs.Below.{countUp-other, countUp-same}
-use Rattle.protocol.proofs.Lists.{at-map}
+use Rattle.protocol.proofs.Lists.{at-map, map-at}
 use Rattle.protocol.proofs.Offering.{deliverable-le}
-use Rattle.protocol.proofs.Searching.{Removed, search-found, skip, skip-inj, skip-ne}
+use Rattle.protocol.proofs.Origins.{above-removed, apart-removed}
+use Rattle.protocol.proofs.Searching.{Removed, search-found, skip}
 use Rattle.protocol.specs.Answer.{delivery}
 use Rattle.protocol.specs.Deliver.{Search, conclude, countUp, found, learn}
 use Rattle.protocol.specs.Node.{atLimit}
 use Rattle.protocol.specs.Offer.{deliverable}
 use Rattle.rules.proofs.Facts.{limit-row, limit-vector}
-use Rattle.soundness.proofs.Frames.{Carried, carried}
 use Rattle.soundness.proofs.Matrices.{keeps-array, learn-keeps}
-use Rattle.soundness.proofs.States.{Follows, apart, as-many, bare, each-kept, facts, follows, frames, with}
+use Rattle.soundness.proofs.States.{Follows, apart, as-many, bare, each-kept, facts, follows, frames, still-new, with}
 use Rattle.soundness.specs.HandedBack.{SoundState}
 use Rattle.wire.specs.Limits.{maxCount}
-
--- the array of a vector with one count raised
-counts : (v : ℕ → ℕ) (i x : ℕ) → x < 12 → vector (listFrom 0 12 (countUp i v)) x ≡ countUp i v x
-counts v i x h = getD-list 0 12 (countUp i v) x h ∙ ap (countUp i v) (zero-add x)
 
 module _ (r : Record) (q : List ℕ) (s : SoundState r q) (free : T (not (atLimit (nodeAt r q)))) where
   -- the frame at place j is found: it is deliverable, and the others are those of the other frames
@@ -90,37 +86,39 @@ module _ (r : Record) (q : List ℕ) (s : SoundState r q) (free : T (not (atLimi
     m = flat (learn (g .kind) (nodeAt r q) (g .entries) .matrix)
 
     -- the count of the sender goes up by one, and those of the others stay
-    raised : vector v (g .from) ≡ suc (vector (r .deliv) (g .from))
-    raised = counts (vector (r .deliv)) (g .from) (g .from) sender ∙ countUp-same (g .from) (vector (r .deliv))
+    counts : (x : ℕ) → x < 12 → vector v x ≡ countUp (g .from) (vector (r .deliv)) x
+    counts x h = vector-list (countUp (g .from) (vector (r .deliv))) x h
 
     stays : (x : ℕ) → x < 12 → (x ≡ g .from → ⊥) → vector v x ≡ vector (r .deliv) x
-    stays x h z = counts (vector (r .deliv)) (g .from) x h ∙ countUp-other (g .from) (vector (r .deliv)) x z
+    stays x h z = counts x h ∙ countUp-other (g .from) (vector (r .deliv)) x z
 
     most : (x : ℕ) → x < 12 → Dec (x ≡ g .from) → vector v x ≤ maxCount
-    most x h (yes z) = rw z (omega (arith, raised, limit-vector (nodeAt r q) free (g .from) sender (facts r q s .vectorLimit (g .from) sender)))
+    most x h (yes z) =
+        rw z (omega (
+          arith,
+          counts (g .from) sender,
+          countUp-same (g .from) (vector (r .deliv)),
+          limit-vector (nodeAt r q) free (g .from) sender (facts r q s .vectorLimit (g .from) sender),
+        ))
     most x h (no z) = omega (arith, stays x h z, facts r q s .vectorLimit x h)
 
     -- the other frames, which are not delivered
     left : EachFrame (FrameKept (bare r)) others
     left h x a = each-kept r q s (skip j h) x (without-at j (frames r q s) h x a)
 
-    still : (h : ℕ) (x : List ℕ) → getElem? others h ≡ some x → Dec (decode x .from ≡ g .from) → vector v (decode x .from) < number (decode x)
-    still h x a (no z) =
-        let k = arrives (bare r) (decode x) (left h x a .arrives) in
-        omega (arith, stays (decode x .from) (omega (arith, carried (r .n) (r .cap) x (left h x a .passes) .from, facts r q s .range .atMost12)) z, k .new)
-    still h x a (yes z) = go (ℕ-discrete (number (decode x)) (number g))
-      where
-        above : vector (r .deliv) (g .from) < number (decode x)
-        above = subst (λ (f : ℕ). vector (r .deliv) f < number (decode x)) z (arrives (bare r) (decode x) (left h x a .arrives) .new)
+    above : (h : ℕ) (a : Message) → getElem? (heldMessages (r .held) q) h ≡ some a → vector (r .deliv) (a .from) < number a
+    above h a e =
+        let x = map-at decode (frames r q s) h a e in
+        subst (λ (z : Message). vector (r .deliv) (z .from) < number z) (x .2) (still-new r q s h (x .0) (x .1))
 
-        go : Dec (number (decode x) ≡ number g) → vector v (decode x .from) < number (decode x)
-        go (yes n) =
-            absurd (skip-ne j h (apart r q s (skip j h) j (decode x) g
-            (at-map decode (frames r q s) (skip j h) x (without-at j (frames r q s) h x a)) (removed .at) z n))
-        go (no n) = subst (λ (f : ℕ). vector v f < number (decode x)) (sym z) (omega (arith, raised, next, above))
-
-    others-apart : Apart (map decode others)
-    others-apart h k a b x y f n = skip-inj j h k (apart r q s (skip j h) (skip j k) a b (sym (removed .rest h) ∙ x) (sym (removed .rest k) ∙ y) f n)
+    still : EachFrame (λ x. vector v (decode x .from) < number (decode x)) others
+    still h x a =
+        omega (
+          arith,
+          counts (decode x .from) (omega (arith, carried (r .n) (r .cap) x (left h x a .passes) .from, facts r q s .range .atMost12)),
+          above-removed (heldMessages (r .held) q) j g (map decode others) removed (apart r q s) (vector (r .deliv)) next above h
+              (decode x) (at-map decode others h x a),
+        )
 
     after : Follows r m v others
     after = record {
@@ -135,8 +133,8 @@ module _ (r : Record) (q : List ℕ) (s : SoundState r q) (free : T (not (atLimi
       limit = λ x h. most x h (ℕ-discrete x (g .from));
       zero = λ x h k. stays x h (λ z. omega (arith, entries .from)) ∙ facts r q s .vectorZero x h k;
       frames = left;
-      new = λ h x a. still h x a (ℕ-discrete (decode x .from) (g .from));
-      apart = others-apart;
+      new = still;
+      apart = apart-removed (heldMessages (r .held) q) j g (map decode others) removed (apart r q s);
       room = omega (arith, length-without j (frames r q s) (omega (arith, as-many r q s)), as-many r q s, facts r q s .room);
     }
 

@@ -10,10 +10,11 @@ use Rattle.arrival.proofs.Arrived.{arrives}
 use Rattle.arrival.specs.View.{arrivalRefusal}
 use Rattle.frame.specs.Frame.{decode}
 use Rattle.holdback.proofs.Held.{FrameKept}
-use Rattle.holdback.proofs.Passing.{Apart, queue-right}
+use Rattle.holdback.proofs.Passing.{queue-right}
+use Rattle.holdback.proofs.Slots.{zeros-laid}
 use Rattle.holdback.specs.WrongQueue.{wrongQueue}
-use Rattle.holdback.specs.Slots.{laid, queueSize, slots, zeros}
-use Rattle.matrix.proofs.Array.{getD-list}
+use Rattle.holdback.specs.Slots.{laid, queueSize, zeros}
+use Rattle.matrix.proofs.Array.{vector-list}
 use Rattle.matrix.proofs.Cleared.{rules-back}
 use Rattle.matrix.proofs.Columns.{MatrixRules}
 use Rattle.matrix.specs.Array.{entry, flat, vector}
@@ -31,6 +32,7 @@ use Rattle.node.specs.declared.Node.{Node as Record}
 use Rattle.node.specs.declared.SetUp.{SetUp}
 use Rattle.node.specs.declared.SetUpAnswer.the-variants.{Refused, Ready}
 use Rattle.protocol.proofs.Lists.{at-none, each-snoc, length-snoc}
+use Rattle.protocol.proofs.Origins.{Apart, apart-snoc}
 use Rattle.protocol.proofs.Runs.{count-zero}
 use Rattle.protocol.specs.Node.{Node}
 use Rattle.protocol.specs.Trim.{trimFor}
@@ -40,7 +42,7 @@ use Rattle.rules.specs.Rules.{inRange}
 use Rattle.soundness.proofs.Deliveries.{delivered}
 use Rattle.soundness.proofs.Matrices.{keeps-array, send-keeps}
 use Rattle.soundness.proofs.States.{Follows, apart, as-many, bare, each-kept, facts, follows, frames}
-use Rattle.soundness.proofs.States.{laid-out, same-matrix, size, snoc-apart, still-new, with}
+use Rattle.soundness.proofs.States.{laid-out, same-matrix, size, still-new, with}
 use Rattle.soundness.specs.HandedBack.{HandedBack, SoundState}
 use Rattle.wire.proofs.Tests.{cond-elim, is-true}
 
@@ -55,7 +57,7 @@ unfolding flat
 zero-matrix = rules-back 2 0 (λ x y. 0) (omega arith) (zero-rules 2 0)
 
 zero-vector : (x : ℕ) → x < 12 → vector (replicate 12 0) x ≡ 0
-zero-vector x h = getD-list 0 12 (λ _. 0) x h
+zero-vector x h = vector-list (λ _. 0) x h
 
 -- such a record keeps every rule
 fresh-kept : (me n cap : ℕ) → Ranged me n cap → brokenRecord (freshRecord me n cap) ≡ false
@@ -75,8 +77,9 @@ fresh-kept me n cap range =
 
 -- zeros are a queue of no frames
 empty-right : (d : Node) → wrongQueue d 0 (zeros queueSize) ≡ false
-unfolding zeros slots
-empty-right d = queue-right d [] (omega arith) (λ h s a. absurd (at-none h s a)) (λ h k a b x. absurd (at-none h a x))
+empty-right d =
+    subst (λ (q : List ℕ). wrongQueue d 0 q ≡ false) (sym zeros-laid)
+    (queue-right d [] (omega arith) (λ h s a. absurd (at-none h s a)) (λ h k a b x. absurd (at-none h a x)))
 
 fresh : (me n cap : ℕ) → setUpNumber (setUp me n cap .answer) ≡ 0 → SoundState (setUp me n cap .node) (zeros queueSize)
 unfolding setUp
@@ -142,7 +145,7 @@ module _ (r : Record) (q : List ℕ) (s : SoundState r q) where
         zero = u .vectorZero;
         frames = each-snoc (FrameKept (bare r)) l x (each-kept r q s) (record { passes = k .frame; arrives = here });
         new = each-snoc (λ t. vector (r .deliv) (decode t .from) < number (decode t)) l x (still-new r q s) (arrives (bare r) (decode x) here .new);
-        apart = subst Apart (sym more) (snoc-apart (map decode l) (decode x) (apart r q s) (k .hold .new));
+        apart = subst Apart (sym more) (apart-snoc (map decode l) (decode x) (apart r q s) (k .hold .new));
         room = omega (arith, length-snoc l x, as-many r q s, k .holdable .room);
       } in
       subst (λ (h : ℕ). SoundState (with r (r .m) (r .deliv) h) (laid (l ++ (x ∷ [])))) many (follows r (r .m) (r .deliv) (l ++ (x ∷ [])) (s .not2) f)
@@ -155,11 +158,8 @@ module _ (r : Record) (q : List ℕ) (s : SoundState r q) where
       go (no h) = subst (λ (c : AfterOffer). SoundState (c .result .node) (c .queue)) (offer-refused r x q (offerRefusal r x q) refl h) s
 
   delivers : (out body : List ℕ) → (let c : AfterDeliver = deliverCall r q out body in SoundState (c .result .node) (c .queue))
-  delivers out body = go (ℕ-discrete k 0)
+  delivers out body = go (ℕ-discrete (deliverRefusal r q (shortOutputs (length out) (length body))) 0)
     where
-      k : ℕ
-      k = deliverRefusal r q (shortOutputs (length out) (length body))
-
       go : Dec (deliverRefusal r q (shortOutputs (length out) (length body)) ≡ 0)
           → (let c : AfterDeliver = deliverCall r q out body in SoundState (c .result .node) (c .queue))
       go (yes z) =

@@ -1,6 +1,5 @@
 -- The proof that every call hands back a sound record and a sound queue.
 pub mod Matrices
-pub mod Frames
 pub mod States
 pub mod Deliveries
 pub mod HandedBack

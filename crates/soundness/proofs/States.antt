@@ -1,25 +1,22 @@
 -- A sound record and queue, and what a call must show of what it leaves so that it is sound again. Assumes nothing.
 use Prim.Native.Nat.{_<_, _≤_, ℕ}
-use mathlib.Core.Bool.{false, not}
-use mathlib.Core.List.{List, [], _++_, _∷_, map}
-use mathlib.Core.Logic.{inl, inr}
-use mathlib.Core.Path.{_∙_, _≡_, ap, sym}
+use mathlib.Core.Bool.{false}
+use mathlib.Core.List.{List, [], map}
+use mathlib.Core.Path.{_∙_, _≡_, ap}
 use native.Mathlib.Omega.{arith}
-use lib.Dec.{T, T-not}
 use lib.ListN.{length}
 use Rattle.arrival.proofs.Arrived.{arrives, arrives-back}
 use Rattle.frame.specs.Frame.{decode}
 use Rattle.holdback.proofs.Held.{FrameKept, QueueKept, queue-kept}
-use Rattle.holdback.proofs.Passing.{Apart, EachFrame, alike-none, origin-some, queue-right, refused-none}
+use Rattle.holdback.proofs.Passing.{EachFrame, alike-none, queue-right, refused-none}
 use Rattle.holdback.proofs.Slots.{held-fit, length-held, length-slots}
 use Rattle.holdback.specs.Slots.{heldFrames, heldMessages, laid, queueSize}
 use Rattle.matrix.specs.Array.{entry, vector}
-use Rattle.matrix.specs.Message.{Message, number}
+use Rattle.matrix.specs.Message.{number}
 use Rattle.node.specs.Record.{brokenRecord, nodeOf}
 use Rattle.node.specs.declared.Node.{Node as Record}
-use Rattle.protocol.proofs.Lists.{Snoc, at-snoc}
+use Rattle.protocol.proofs.Origins.{Apart}
 use Rattle.protocol.specs.Node.{Node}
-use Rattle.protocol.specs.Offer.{someSameOrigin}
 use Rattle.rules.proofs.Facts.{Unbroken, unbroken}
 use Rattle.rules.proofs.Kept.{rules-kept}
 use Rattle.soundness.proofs.Matrices.{Keeps}
@@ -118,14 +115,3 @@ module _ (r : Record) (q : List ℕ) (s : SoundState r q) where
   -- with the vector as it was, no held frame is counted as delivered
   pub still-new : EachFrame (λ x. vector (r .deliv) (decode x .from) < number (decode x)) frames
   still-new h x a = arrives (bare r) (decode x) (each-kept h x a .arrives) .new
-
--- one more message, with another from or number than each of those before it
-pub snoc-apart : (l : List Message) (m : Message) → Apart l → T (not (someSameOrigin l m)) → Apart (l ++ (m ∷ []))
-snoc-apart l m f t h k a b x y from n = go (at-snoc l m h a x) (at-snoc l m k b y)
-  where
-    go : Snoc l m h a → Snoc l m k b → h ≡ k
-    go (inl p) (inl o) = f h k a b p o from n
-    go (inl p) (inr o) = absurd (T-not (someSameOrigin l m) t (origin-some l m h a p (from ∙ ap (λ (z : Message). z .from) (o .1)) (n ∙ ap number (o .1))))
-    go (inr p) (inl o) =
-        absurd (T-not (someSameOrigin l m) t (origin-some l m k b o (sym from ∙ ap (λ (z : Message). z .from) (p .1)) (sym n ∙ ap number (p .1))))
-    go (inr p) (inr o) = p .0 ∙ sym (o .0)
