@@ -1,6 +1,7 @@
 -- The counters (document 01: the tally), and what each step of the yard does to them. A count stays at 4,294,967,295 once it is there.
 use Prim.Native.Nat.{ℕ, _+_, _*_, _/_, min}
 use mathlib.Core.Bool.{cond}
+use mathlib.Core.List.{List, [], _∷_}
 use lib.Dec.{eqb}
 use Rattle.counters.specs.declared.Counters.{Counters}
 
@@ -40,3 +41,7 @@ countedDelivery t x =
 unfoldable pub countedNothing : Counters → ℕ → Counters
 countedNothing t x =
     record { user = t .user; extras = t .extras; delivered = t .delivered; delays = upTo32 (t .delays + 1); share = t .share }
+
+-- the T numbers: user frames, extras, frames delivered, delays, extras per hundred user frames
+abbrev pub totals : Counters → List ℕ
+totals t = t .user ∷ t .extras ∷ t .delivered ∷ t .delays ∷ t .share ∷ []

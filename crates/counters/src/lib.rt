@@ -1,7 +1,7 @@
 //! The counters of a run (document 01: the tally), which each step is lent and updates in place.
 ghost use mathlib.Core.Path.{_≡_};
 ghost use Prim.Native.Nat.{_+_};
-ghost use Rattle.counters.specs.Counted.{upTo32, share, noCounters, withExtras, countedSend, countedOffer, countedDelivery, countedNothing};
+ghost use Rattle.counters.specs.Counted.{upTo32, share, noCounters, withExtras, countedSend, countedOffer, countedDelivery, countedNothing, totals};
 
 /// User frames, extra frames, frames delivered (of either kind), delays, and extras per hundred user frames.
 pub struct Counters {
@@ -51,6 +51,13 @@ pub fn no_counters() -> Counters
         delays: 0,
         share: 0,
     }
+}
+
+/// The T numbers, in the order in which they are printed.
+pub fn totals(t: Counters) -> [u32; 5]
+    ensures { λ r. ⌜ r ≡ totals t ⌝ }
+{
+    [t.user, t.extras, t.delivered, t.delays, t.share]
 }
 
 // With x extra frames more, and the share anew.

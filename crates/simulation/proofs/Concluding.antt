@@ -16,13 +16,17 @@ use Rattle.world.specs.Stored.{Holds, joined}
 use Rattle.world.specs.declared.Outcome.{Outcome}
 use Rattle.world.specs.declared.Stepped.{Stepped}
 use Rattle.world.specs.declared.World.{World as Stored}
-use Rattle.simulation.specs.Asked.{Few, InLog, Logged, Small, Wrote}
-use Rattle.simulation.specs.Stands.{Stands, Took}
-use Rattle.simulation.specs.Yard.{Yard, afterStep, countedBy, issueRows, line, maxIssues, newRows, printedBy, refusalRow}
+use Rattle.text.specs.Print.{refusalRow}
+use Rattle.text.specs.Wrote.{Wrote}
+use Rattle.text.proofs.Print.{shown}
+use Rattle.counting.specs.Stands.{Stands}
+use Rattle.counting.specs.State.{State, countedBy}
+use Rattle.counting.specs.declared.State.{State as StoredState}
+use Rattle.simulation.specs.Asked.{InLog, Logged, Small}
+use Rattle.simulation.specs.Stands.{Took}
+use Rattle.simulation.specs.Yard.{afterStep, issueRows, line, maxIssues, newRows, printedBy}
 use Rattle.simulation.specs.declared.Taken.{Taken}
-use Rattle.simulation.specs.declared.Yard.{Yard as StoredYard}
 use Rattle.simulation.proofs.Facts.{StepFacts}
-use Rattle.simulation.proofs.Outcomes.{shown}
 
 -- the outcome and the world of a step are stored
 abbrev pub Told : (n cap k : ℕ) (a : AfterStep) (o : Outcome) (s : Stored) (q l : List ℕ) → Type 0
@@ -48,9 +52,6 @@ module _ (n cap k : ℕ) (v : World) (w : Stored) (q l : List ℕ) (h : Holds n 
 
   pub grows : w .issued ≤ s .world .issued
   grows = omega (arith, h .issued, told .1 .issued, ap length (f .grown .1), length-append (v .log) (f .grown .0))
-
-  pub few-told : Few (s .outcome)
-  few-told = subst Few (sym (told .0)) (f .few)
 
   pub small-told : Small x (s .outcome)
   small-told = subst (Small x) (sym (told .0)) (f .small)
@@ -78,7 +79,7 @@ module _ (n cap k : ℕ) (v : World) (w : Stored) (q l : List ℕ) (h : Holds n 
       shown _ _ at end o o′ (sym (ap₂ (λ (i : ℕ) (y : Outcome). printedBy x (issueRows (i + 1) (drop i g)) y) (h .issued) (told .0))) (d .0) (d .1)
 
 -- the line is taken
-module _ (n cap k : ℕ) (z : Yard) (w : Stored) (t : Counters) (q l : List ℕ) (h : Holds n cap maxIssues k (z .world) w q l) (counters : t ≡ z .counters) (x : ℕ)
+module _ (n cap k : ℕ) (z : State) (w : Stored) (t : Counters) (q l : List ℕ) (h : Holds n cap maxIssues k (z .world) w q l) (counters : t ≡ z .counters) (x : ℕ)
     (a : AfterStep) (f : StepFacts x (z .world) a)
     (s : Stepped) (q′ l′ : List ℕ) (told : Told n cap k a (s .outcome) (s .world) q′ l′) where
   pub took-step : (r : Taken) (at : ℕ) (o o′ : List ℕ) → r .yard .world ≡ s .world → r .yard .counters ≡ countedBy t (s .outcome)
@@ -97,7 +98,7 @@ module _ (n cap k : ℕ) (z : Yard) (w : Stored) (t : Counters) (q l : List ℕ)
       }
 
 -- another line: nothing but the refusal is printed
-pub took-other : (n cap k : ℕ) (z : Yard) (y : StoredYard) (q l : List ℕ) → Stands n cap k z y q l → (at end : ℕ) (o o′ : List ℕ)
+pub took-other : (n cap k : ℕ) (z : State) (y : StoredState) (q l : List ℕ) → Stands n cap maxIssues k z y q l → (at end : ℕ) (o o′ : List ℕ)
     → end ≡ at + length (refusalRow 17) → o′ ≡ put o at (refusalRow 17)
     → Took n cap k (line n z command.Other) at o (record { yard = y; end = end }) q l o′
 unfolding line
@@ -105,6 +106,6 @@ took-other n cap k z y q l s at end o o′ e b =
     record { stands = record { world = holds-later n cap maxIssues k (z .world) (y .world) q l (s .world); counters = s .counters }; end = e; bytes = b }
 
 -- the line of a command that the text is
-pub took-as : (n cap k : ℕ) (z : Yard) (c d : Command) → d ≡ c → (at : ℕ) (o : List ℕ) (r : Taken) (q l o′ : List ℕ) → Took n cap k (line n z c) at o r q l o′
+pub took-as : (n cap k : ℕ) (z : State) (c d : Command) → d ≡ c → (at : ℕ) (o : List ℕ) (r : Taken) (q l o′ : List ℕ) → Took n cap k (line n z c) at o r q l o′
     → Took n cap k (line n z d) at o r q l o′
 took-as n cap k z c d e at o r q l o′ t = subst (λ (x : Command). Took n cap k (line n z x) at o r q l o′) (sym e) t

@@ -30,13 +30,14 @@ use Rattle.wire.specs.Trailer as trailers
 use Rattle.causality.specs.Demand3.{cutFor}
 use Rattle.text.specs.Pieces.{split, grown}
 use Rattle.text.specs.Fields.{value, continued, isDigit}
-use Rattle.text.specs.Print.{row, spaced, decimal, digits}
+use Rattle.text.specs.Print.{row, lineEnd, spaced, decimal, digits}
 use Rattle.commands.specs.Commands as commands
 use Rattle.commands.specs.FirstLine as firstLine
 use Rattle.counters.specs.Counted.{upTo32, share, noCounters, withExtras, countedSend, countedOffer, countedDelivery, countedNothing}
 use Rattle.world.specs.Steps.{sendStep, offerStep, deliverStep, named, issueFrom}
 use Rattle.world.specs.Start.{startable, capTaken}
-use Rattle.simulation.specs.Yard.{output, ofLines, started, lines, line, printedBy, countedBy, headerRow, issueRows}
+use Rattle.counting.specs.State.{countedBy}
+use Rattle.simulation.specs.Yard.{output, ofLines, started, lines, line, printedBy, headerRow, issueRows}
 
 -- the example's input
 abbrev pub input : List ℕ
@@ -75,6 +76,6 @@ unfolding setUp inRange cutFor sendCall offerCall deliverCall brokenRecord broke
     trailers.counted checksum total decode wrongQueue sameBytes heldRefused someRefused someAlike arrivalRefusal frameRefusal wrongTrailer hasTrailer countBack
     sumBack wrongKind wrongAddress wrongContent wrongBody wrongEntries eachOk entryOk precedes rising risingAfter zeros padded slots frameIn heldFrames without
     sendStep offerStep deliverStep named issueFrom startable capTaken upTo32 share noCounters withExtras countedSend countedOffer countedDelivery countedNothing
-    commands.letter commands.withOne commands.withTwo commands.ofPieces commands.command firstLine.sizes firstLine.ofPieces firstLine.firstLine row spaced
+    commands.letter commands.withOne commands.withTwo commands.ofPieces commands.command firstLine.sizes firstLine.ofPieces firstLine.firstLine row lineEnd spaced
     decimal digits value continued isDigit split grown output ofLines started lines line printedBy countedBy headerRow issueRows
 example = refl

@@ -20,48 +20,51 @@ use Rattle.counters.specs.Counted.{noCounters}
 use Rattle.counters.specs.declared.Counters.{Counters}
 use Rattle.causality.specs.Demand3.{start}
 use Rattle.world.specs.Stored.{Holds, Standing}
-use Rattle.simulation.specs.Asked.{WroteWhole}
-use Rattle.simulation.specs.Stands.{Stands, Took}
-use Rattle.simulation.specs.Yard.{AfterLine, Yard, line, lines, maxIssues, opened, refusalRow, totalRow}
+use Rattle.text.specs.Print.{refusalRow}
+use Rattle.text.specs.Wrote.{WroteWhole}
+use Rattle.counting.specs.Stands.{Stands}
+use Rattle.counting.specs.State.{State, opened}
+use Rattle.counting.specs.declared.State.{State as StoredState}
+use Rattle.simulation.specs.Stands.{Took}
+use Rattle.simulation.specs.Yard.{AfterLine, line, lines, maxIssues, totalRow}
 use Rattle.simulation.specs.declared.Taken.{Taken}
-use Rattle.simulation.specs.declared.Yard.{Yard as StoredYard}
 
 -- a line and those behind it, and what stands behind the last line feed
-lines-more : (n : ℕ) (z : Yard) (t : List ℕ) (ps : List (List ℕ)) → 1 ≤ length ps
+lines-more : (n : ℕ) (z : State) (t : List ℕ) (ps : List (List ℕ)) → 1 ≤ length ps
     → lines n z (t ∷ ps) ≡ line n z (command t) .printed ++ lines n (line n z (command t) .yard) ps
 unfolding lines
 lines-more n z t [] h = absurd (omega arith)
 lines-more n z t (p ∷ ps) h = refl
 
-lines-last : (n : ℕ) (z : Yard) (t : List ℕ) → lines n z (t ∷ []) ≡ cond (eqb (length t) 0) [] (refusalRow 17) ++ totalRow (z .counters)
+lines-last : (n : ℕ) (z : State) (t : List ℕ) → lines n z (t ∷ []) ≡ cond (eqb (length t) 0) [] (refusalRow 17) ++ totalRow (z .counters)
 unfolding lines
 lines-last n z t = refl
 
 -- what is left of the output, with the yard z at the line that begins at `at`
-abbrev left : ℕ → List ℕ → Yard → ℕ → List ℕ
+abbrev left : ℕ → List ℕ → State → ℕ → List ℕ
 left n s z at = lines n z (split 10 (drop at s))
 
 -- a yard of n nodes over the input s from the line at `from` on: up to `at` its lines are taken, and what they print stands in o up to `pos`
-pub record Running (n cap : ℕ) (s : List ℕ) (from : ℕ) (o₀ : List ℕ) (y : StoredYard) (q l o : List ℕ) (at pos : ℕ) : Type 0 where
-  pub yard : Yard
+pub record Running (n cap : ℕ) (s : List ℕ) (from : ℕ) (o₀ : List ℕ) (y : StoredState) (q l o : List ℕ) (at pos : ℕ) : Type 0 where
+  pub yard : State
   pub steps : ℕ
   pub few : steps ≤ at
-  pub stands : Stands n cap steps yard y q l
+  pub stands : Stands n cap maxIssues steps yard y q l
   pub end : pos + length (left n s yard at) ≡ length (left n s (opened n cap) from)
   pub bytes : put o pos (left n s yard at) ≡ put o₀ 0 (left n s (opened n cap) from)
 
-pub running-starts : (n cap : ℕ) (s : List ℕ) (from : ℕ) (o : List ℕ) (y : StoredYard) (q l : List ℕ) → Holds n cap maxIssues 0 (start n cap) (y .world) q l
+pub running-starts : (n cap : ℕ) (s : List ℕ) (from : ℕ) (o : List ℕ) (y : StoredState) (q l : List ℕ) → Holds n cap maxIssues 0 (start n cap) (y .world) q l
     → y .counters ≡ noCounters → Running n cap s from o y q l o from 0
 running-starts n cap s from o y q l h e =
     record { yard = opened n cap; steps = 0; few = omega arith; stands = record { world = h; counters = e }; end = zero-add _; bytes = refl }
 
-pub running-standing : (n cap : ℕ) (s : List ℕ) (from : ℕ) (o₀ : List ℕ) (y : StoredYard) (q l o : List ℕ) (at pos : ℕ) → Running n cap s from o₀ y q l o at pos
+pub running-standing : (n cap : ℕ) (s : List ℕ) (from : ℕ) (o₀ : List ℕ) (y : StoredState) (q l o : List ℕ) (at pos : ℕ) → Running n cap s from o₀ y q l o at pos
     → at < 999999999 → Standing maxIssues (y .world) q l
 running-standing n cap s from o₀ y q l o at pos r h =
     record { n = n; cap = cap; k = r .steps; world = r .yard .world; more = omega (arith, r .few); holds = r .stands .world }
 
 -- the next line
-module _ (n cap : ℕ) (s : List ℕ) (from : ℕ) (o₀ : List ℕ) (y : StoredYard) (q l o : List ℕ) (at pos end : ℕ) (r : Running n cap s from o₀ y q l o at pos)
+module _ (n cap : ℕ) (s : List ℕ) (from : ℕ) (o₀ : List ℕ) (y : StoredState) (q l o : List ℕ) (at pos end : ℕ) (r : Running n cap s from o₀ y q l o at pos)
     (e : end ≡ at + before 10 (drop at s)) (h : end < length s) where
   abbrev a : AfterLine
   a = line n (r .yard) (command (take (end - at) (drop at s)))
@@ -84,7 +87,7 @@ module _ (n cap : ℕ) (s : List ℕ) (from : ℕ) (o₀ : List ℕ) (y : Stored
       }
 
 -- the end of the input
-module _ (n cap : ℕ) (s : List ℕ) (from : ℕ) (o₀ : List ℕ) (y : StoredYard) (q l o : List ℕ) (at pos end : ℕ) (r : Running n cap s from o₀ y q l o at pos)
+module _ (n cap : ℕ) (s : List ℕ) (from : ℕ) (o₀ : List ℕ) (y : StoredState) (q l o : List ℕ) (at pos end : ℕ) (r : Running n cap s from o₀ y q l o at pos)
     (e : end ≡ at + before 10 (drop at s)) (h : end ≡ length s) (inside : at ≤ length s) where
   -- whether bytes stand behind the last line feed
   rest-test : cond (eqb (length (drop at s)) 0) [] (refusalRow 17) ≡ cond (ltb at end) (refusalRow 17) []

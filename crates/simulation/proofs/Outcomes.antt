@@ -1,30 +1,17 @@
--- Laws of what a step prints and counts, by its outcome. Assumes nothing.
+-- Laws of what a step prints, by its outcome. Assumes nothing.
 use Prim.Native.Nat.{ℕ, _+_, _<_}
 use mathlib.Core.Bool.{Bool}
 use mathlib.Core.List.{List, [], _∷_, _++_}
-use mathlib.Core.Path.{_≡_, sym, ap, _∙_, subst}
-use native.Mathlib.Omega.{arith}
-use lib.ListN.{length, length-append}
+use mathlib.Core.Path.{_≡_, ap, subst}
+use lib.ListN.{length}
 use Rattle.wire.specs.Bytes.{put}
-use Rattle.wire.proofs.Bytes.{put-append}
-use Rattle.text.specs.Print.{row}
+use Rattle.text.specs.Print.{refusalRow, row}
+use Rattle.text.specs.Wrote.{Wrote}
+use Rattle.text.proofs.Print.{shown, shown-both}
 use Rattle.world.specs.declared.Outcome.{Outcome}
 use Rattle.world.specs.declared.Outcome.the-variants as outcome
-use Rattle.simulation.specs.Asked.{Few, Small, Wrote, WroteWhole}
-use Rattle.simulation.specs.Yard.{refusalRow, printedBy}
-
--- what is written is what is printed
-pub shown : (p q : List ℕ) (at r : ℕ) (o o′ : List ℕ) → p ≡ q → r ≡ at + length q → o′ ≡ put o at q → Wrote p at o r o′
-shown p q at r o o′ e l b = (l ∙ ap (λ (x : List ℕ). at + length x) (sym e), b ∙ ap (put o at) (sym e))
-
--- the same from the output's front on
-pub shown-first : (p q : List ℕ) (r : ℕ) (o o′ : List ℕ) → p ≡ q → r ≡ length q → o′ ≡ put o 0 q → WroteWhole p o r o′
-shown-first p q r o o′ e l b = (l ∙ ap length (sym e), b ∙ ap (put o 0) (sym e))
-
--- one line behind the other
-pub shown-both : (p q : List ℕ) (at r s : ℕ) (o o′ o″ : List ℕ) → r ≡ at + length p → o′ ≡ put o at p → s ≡ r + length q
-    → o″ ≡ put o′ r q → Wrote (p ++ q) at o s o″
-shown-both p q at r s o o′ o″ l b m d = (omega (arith, length-append p q), rw (d, b, l) (sym (put-append o at p q)))
+use Rattle.simulation.specs.Asked.{Small}
+use Rattle.simulation.specs.Yard.{printedBy}
 
 module _ (x : ℕ) (o : Outcome) where
   pub printed-refused : (is : List ℕ) (k : ℕ) → o ≡ outcome.Refused k → printedBy x is o ≡ refusalRow k
@@ -63,14 +50,3 @@ module _ (x : ℕ) (o : Outcome) where
 
     pub small-delivered : (i k m : ℕ) → o ≡ outcome.Delivered i k m → (x < 1000) × (i < 100) × (k < 100)
     small-delivered i k m e = subst (Small x) e s
-
--- the numbers that are counted
-module _ (o : Outcome) (s : Few o) where
-  pub few-sent : (k : ℕ) → o ≡ outcome.Sent k → k < 100
-  few-sent k e = subst Few e s
-
-  pub few-nothing : (k : ℕ) → o ≡ outcome.Nothing k → k < 100
-  few-nothing k e = subst Few e s
-
-  pub few-delivered : (i k m : ℕ) → o ≡ outcome.Delivered i k m → m < 100
-  few-delivered i k m e = subst Few e s

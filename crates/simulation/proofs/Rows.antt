@@ -9,23 +9,20 @@ use lib.ListN.{length, getD, take, drop, length-append}
 use lib.Seq.{drop-cons, drop-length}
 use Rattle.wire.specs.Bytes.{put}
 use Rattle.wire.proofs.Bytes.{put-append}
-use Rattle.text.specs.Print.{decimal, digits, row, spaced}
+use Rattle.text.specs.Print.{decimal, digits, lineEnd, refusalRow, row, spaced}
+use Rattle.text.specs.Wrote.{Wrote}
 use Rattle.text.proofs.Print.{decimal-few, length-row-nil, length-row-cons}
 use Rattle.frame.specs.Header.{header}
 use Rattle.frame.specs.declared.header.Header.{Header}
 use Rattle.world.specs.Stored.{joined}
-use Rattle.simulation.specs.Asked.{Wrote}
-use Rattle.simulation.specs.Yard.{headerRow, issueRows, refusalRow}
-
--- numbers of two or three digits behind a letter
-pub one-number : (l a : ℕ) → a < 1000 → length (row l (a ∷ [])) ≤ 6
-one-number l a h = omega (arith, length-row-cons l a [], length-row-nil l, decimal-few 3 a (omega arith) h)
+use Rattle.simulation.specs.Yard.{headerRow, issueRows}
 
 -- `R 17` and its line feed
 pub refusal-17 : length (refusalRow 17) ≡ 5
-unfolding row spaced decimal digits
+unfolding row lineEnd spaced decimal digits
 refusal-17 = refl
 
+-- numbers of two or three digits behind a letter
 pub two-numbers : (l a b : ℕ) → a < 1000 → b < 100 → length (row l (a ∷ b ∷ [])) ≤ 9
 two-numbers l a b h i =
     omega (arith, length-row-cons l a (b ∷ []), length-row-cons l b [], length-row-nil l, decimal-few 3 a (omega arith) h, decimal-few 2 b (omega arith) i)
@@ -42,25 +39,6 @@ three-numbers l a b c h i j =
       decimal-few 3 a (omega arith) h,
       decimal-few 2 b (omega arith) i,
       decimal-few 2 c (omega arith) j,
-    )
-
--- five numbers of 32 bits
-pub total-most : (l a b c d e : ℕ) → a < 4294967296 → b < 4294967296 → c < 4294967296 → d < 4294967296 → e < 4294967296
-    → length (row l (a ∷ b ∷ c ∷ d ∷ e ∷ [])) ≤ 57
-total-most l a b c d e ha hb hc hd he =
-    omega (
-      arith,
-      length-row-cons l a (b ∷ c ∷ d ∷ e ∷ []),
-      length-row-cons l b (c ∷ d ∷ e ∷ []),
-      length-row-cons l c (d ∷ e ∷ []),
-      length-row-cons l d (e ∷ []),
-      length-row-cons l e [],
-      length-row-nil l,
-      decimal-few 10 a (omega arith) (omega arith),
-      decimal-few 10 b (omega arith) (omega arith),
-      decimal-few 10 c (omega arith) (omega arith),
-      decimal-few 10 d (omega arith) (omega arith),
-      decimal-few 10 e (omega arith) (omega arith),
     )
 
 -- the line of an issued frame: an issue below 100, and bytes

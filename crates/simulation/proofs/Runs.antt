@@ -1,13 +1,12 @@
--- A run by its tests: the output's length, the input's, and the first line. Assumes nothing.
+-- A run by its tests: the input's length, and the first line. Assumes nothing.
 use Prim.Native.Nat.{ℕ, _+_, _-_, _*_, _≤_, _<_}
 use mathlib.Core.Bool.{true, false}
 use mathlib.Core.List.{List, [], _∷_}
-use mathlib.Core.Path.{_≡_, refl, sym, ap, ap₂, _∙_, subst}
+use mathlib.Core.Path.{_≡_, refl, sym, ap, _∙_, subst}
 use native.Mathlib.Nat.{sub-zero}
 use native.Mathlib.Omega.{arith}
 use borrow.Author.Tests.{le-ltb, lt-ltb}
 use lib.ListN.{length, take, drop, replicate, length-replicate}
-use Rattle.wire.specs.Bytes.{put}
 use Rattle.text.specs.Pieces.{split}
 use Rattle.text.specs.Before.{before}
 use Rattle.text.proofs.Pieces.{split-found, split-none, split-some}
@@ -16,14 +15,12 @@ use Rattle.commands.specs.declared.FirstLine.{FirstLine}
 use Rattle.commands.specs.declared.FirstLine.the-variants as first
 use Rattle.holdback.specs.Slots.{queueSize, zeros}
 use Rattle.causality.specs.Demand3.{start}
-use Rattle.world.proofs.Starts.{holds-start}
+use Rattle.world.proofs.Starts.{holds-start, opens}
 use Rattle.world.specs.Stored.{Holds, fresh, logSize}
 use Rattle.world.specs.Start.{maxSimulated, startable}
 use Rattle.world.specs.declared.World.{World}
-use Rattle.simulation.specs.Run.{Fits, afterRun, outputSize, runCall}
-use Rattle.simulation.specs.Yard.{alone, lines, maxInput, maxIssues, ofLines, opened, output, started}
-use Rattle.simulation.specs.declared.Ran.{Ran}
-use Rattle.simulation.specs.declared.Ran.the-variants as ran
+use Rattle.counting.specs.State.{opened}
+use Rattle.simulation.specs.Yard.{alone, lines, maxInput, maxIssues, ofLines, output, started}
 
 -- the start in two local arrays of zeros
 pub stored-start : (n c : ℕ) → startable n (c ∷ c ∷ c ∷ c ∷ []) ≡ true → (w : World) → w ≡ fresh n (c ∷ c ∷ c ∷ c ∷ []) → (i j : ℕ)
@@ -32,7 +29,7 @@ pub stored-start : (n c : ℕ) → startable n (c ∷ c ∷ c ∷ c ∷ []) ≡ 
 unfolding zeros
 stored-start n c s w e i j a b =
     subst (λ (x : World). Holds n c maxIssues 0 (start n c) x (replicate i 0) (replicate j 0)) (sym e)
-    (holds-start n c maxIssues s (replicate i 0) (replicate j 0) (ap zeros a) (length-replicate j 0 ∙ b))
+    (holds-start n c maxIssues (opens n c s) (replicate i 0) (replicate j 0) (ap zeros a) (length-replicate j 0 ∙ b))
 
 -- a first line's sizes in range, or not
 pub started-yes : (n c : ℕ) (ls : List (List ℕ)) → startable n (c ∷ c ∷ c ∷ c ∷ []) ≡ true → started (first.Sizes n c) ls ≡ lines n (opened n c) ls
@@ -77,18 +74,3 @@ module _ (s : List ℕ) where
 
     pub output-other : end < length s → firstLine (take end s) ≡ first.Other → output s ≡ alone
     output-other l g = output-first l first.Other g ∙ started-other (split 10 (drop (end + 1) s))
-
--- what a run leaves
-pub run-short : (s o : List ℕ) → length o < outputSize → afterRun ran.TooShort o ≡ runCall s o
-unfolding runCall
-run-short s o h = rw (lt-ltb (length o) outputSize h)
-
-pub run-written : (s o : List ℕ) → outputSize ≤ length o → (p : List ℕ) → output s ≡ p → (r : ℕ) (o′ : List ℕ) → r ≡ length p → o′ ≡ put o 0 p
-    → afterRun (ran.Written r) o′ ≡ runCall s o
-unfolding runCall
-run-written s o h p e r o′ er eo =
-    rw (le-ltb (length o) outputSize h) (ap₂ (λ (x : ℕ) (y : List ℕ). afterRun (ran.Written x) y) (er ∙ ap length (sym e)) (eo ∙ ap (put o 0) (sym e)))
-
--- what a run wrote fits an output that is long enough
-pub written-fits : (r : Ran) (k : ℕ) (o : List ℕ) → r ≡ ran.Written k → Fits r → outputSize ≤ length o → k ≤ length o
-written-fits r k o e f h = let g : k ≤ outputSize = subst Fits e f in omega arith

@@ -1,20 +1,11 @@
--- What the functions of this crate ask of the numbers and bytes that they are lent, and what they write.
-use Prim.Native.Nat.{ℕ, _+_, _<_, _≤_}
+-- What the functions of this crate ask of the numbers and bytes that they are lent.
+use Prim.Native.Nat.{ℕ, _<_, _≤_}
 use mathlib.Core.List.{List}
 use mathlib.Core.Path.{_≡_}
 use lib.ListN.{length, take}
-use Rattle.wire.specs.Bytes.{put}
 use Rattle.world.specs.Stored.{Begins, joined}
 use Rattle.world.specs.declared.Outcome.{Outcome}
 use Rattle.world.specs.declared.Outcome.the-variants as outcome
-
--- p is written into the output o from `at` on, which makes it o′, and ends at `end`
-abbrev pub Wrote : (p : List ℕ) (at : ℕ) (o : List ℕ) (end : ℕ) (o′ : List ℕ) → Type 0
-Wrote p at o end o′ = (end ≡ at + length p) × (o′ ≡ put o at p)
-
--- p is the whole of what is written, k bytes from the front of the output on
-abbrev pub WroteWhole : (p o : List ℕ) (k : ℕ) (o′ : List ℕ) → Type 0
-WroteWhole p o k o′ = (k ≡ length p) × (o′ ≡ put o 0 p)
 
 -- the numbers printed for an outcome have at most two digits, x three
 abbrev pub Small : ℕ → Outcome → Type 0
@@ -23,14 +14,6 @@ Small x (outcome.Sent extras) = Unit {0}
 Small x (outcome.Held count ready) = (x < 1000) × (count < 100)
 Small x (outcome.Nothing tried) = (x < 1000) × (tried < 100)
 Small x (outcome.Delivered issue tried extras) = (x < 1000) × (issue < 100) × (tried < 100)
-
--- the numbers that are counted have at most two digits
-abbrev pub Few : Outcome → Type 0
-Few (outcome.Refused k) = Unit {0}
-Few (outcome.Sent extras) = extras < 100
-Few (outcome.Held count ready) = Unit {0}
-Few (outcome.Nothing tried) = tried < 100
-Few (outcome.Delivered issue tried extras) = extras < 100
 
 -- f are the frames, `count` of them, that the log l begins with, and the first k of them end at `place`
 pub record InLog (k count place : ℕ) (l : List ℕ) (f : List (List ℕ)) : Type 0 where

@@ -1,5 +1,5 @@
 -- To believe: Yard, the yard's lines and its output, Run, a run over lent bytes, and EveryYard, that demand 3 speaks of every yard.
--- Vocabulary of inner contracts: Asked, and Stands, how a yard is stored.
+-- Vocabulary of inner contracts: Asked, and Stands, what a line leaves of a stored yard.
 pub mod Yard
 pub mod Run
 pub mod EveryYard

@@ -1,4 +1,4 @@
--- How a yard is stored, and what a line's function leaves of it.
+-- What a line's function leaves of a yard that is stored, and the room that it asks for.
 use Prim.Native.Nat.{ℕ, _+_, _-_, _*_, _≤_}
 use mathlib.Core.List.{List}
 use mathlib.Core.Path.{_≡_}
@@ -7,23 +7,19 @@ use Rattle.wire.specs.Bytes.{put}
 use Rattle.causality.specs.Demand3.{start}
 use Rattle.world.specs.Stored.{Holds}
 use Rattle.world.specs.declared.World.{World}
-use Rattle.simulation.specs.Yard.{AfterLine, Yard, maxIssues}
-use Rattle.simulation.specs.declared.Yard.{Yard as Stored}
+use Rattle.counting.specs.Stands.{Stands}
+use Rattle.counting.specs.declared.State.{State}
+use Rattle.simulation.specs.Yard.{AfterLine, maxIssues}
 use Rattle.simulation.specs.declared.Taken.{Taken}
-
--- the yard z, which at most k lines led to, is stored in y, the queues q and the log l
-pub record Stands (n cap k : ℕ) (z : Yard) (y : Stored) (q l : List ℕ) : Type 0 where
-  pub world : Holds n cap maxIssues k (z .world) (y .world) q l
-  pub counters : y .counters ≡ z .counters
 
 -- a line that leaves and prints a: its yard is stored, and what it prints is written from `at` on
 pub record Took (n cap k : ℕ) (a : AfterLine) (at : ℕ) (o : List ℕ) (r : Taken) (q l o′ : List ℕ) : Type 0 where
-  pub stands : Stands n cap (k + 1) (a .yard) (r .yard) q l
+  pub stands : Stands n cap maxIssues (k + 1) (a .yard) (r .yard) q l
   pub end : r .end ≡ at + length (a .printed)
   pub bytes : o′ ≡ put o at (a .printed)
 
 -- from `at` on the output o has room for one line and for each frame that is still issued: 20 bytes, and 17 for a frame
-abbrev pub Room : ℕ → Stored → List ℕ → Type 0
+abbrev pub Room : ℕ → State → List ℕ → Type 0
 Room at y o = at + 20 + 17 * (75 - y .world .issued) ≤ length o
 
 -- the start of some yard is stored

@@ -1,14 +1,14 @@
--- The yard (document 01): what its lines do and print, and the output of an input. Printed letters are ASCII: A 65, D 68, N 78, R 82, S 83, T 84, X 88.
+-- The yard (document 01): what its lines do and print, and the output of an input. Printed letters are ASCII: A 65, D 68, N 78, S 83, T 84, X 88.
 use Prim.Native.Nat.{ℕ, _+_}
-use mathlib.Core.Bool.{Bool, true, false, cond}
+use mathlib.Core.Bool.{cond}
 use mathlib.Core.List.{List, [], _∷_, _++_}
 use lib.Dec.{eqb, ltb}
 use lib.ListN.{length, drop}
 use Rattle.text.specs.Pieces.{split}
-use Rattle.text.specs.Print.{row}
+use Rattle.text.specs.Print.{refusalRow, row}
 use Rattle.frame.specs.Header.{header}
 use Rattle.frame.specs.declared.header.Header.{Header}
-use Rattle.causality.specs.Demand3.{World, start}
+use Rattle.causality.specs.Demand3.{World}
 use Rattle.commands.specs.Commands.{command}
 use Rattle.commands.specs.FirstLine.{firstLine}
 use Rattle.commands.specs.declared.Command.{Command}
@@ -16,7 +16,8 @@ use Rattle.commands.specs.declared.Command.the-variants as command
 use Rattle.commands.specs.declared.FirstLine.{FirstLine}
 use Rattle.commands.specs.declared.FirstLine.the-variants as first
 use Rattle.counters.specs.declared.Counters.{Counters}
-use Rattle.counters.specs.Counted.{noCounters, countedSend, countedOffer, countedDelivery, countedNothing}
+use Rattle.counters.specs.Counted.{totals}
+use Rattle.counting.specs.State.{State, opened, stateAfter}
 use Rattle.world.specs.Steps.{AfterStep, sendStep, offerStep, deliverStep, frames}
 use Rattle.world.specs.Start.{startable}
 use Rattle.world.specs.declared.Outcome.{Outcome}
@@ -31,10 +32,6 @@ abbrev pub maxInput : ℕ
 maxInput = 4096
 
 -- ---- Printed lines
-
--- a refusal: R, number
-abbrev pub refusalRow : ℕ → List ℕ
-refusalRow k = row 82 (k ∷ [])
 
 -- a frame issued: S, or X for an extra, issue, from, to, e
 unfoldable pub headerRow : ℕ → Header → List ℕ
@@ -51,24 +48,14 @@ newRows w v = issueRows (length (w .log) + 1) (drop (length (w .log)) (frames (v
 
 -- T: user frames, extras, frames delivered, delays, extras per hundred user frames
 abbrev pub totalRow : Counters → List ℕ
-totalRow t = row 84 (t .user ∷ t .extras ∷ t .delivered ∷ t .delays ∷ t .share ∷ [])
+totalRow t = row 84 (totals t)
 
 -- ---- A line
 
--- the yard: the world of its list of steps, and the counters (document 01: the tally)
-pub record Yard : Type 0 where
-  pub world : World
-  pub counters : Counters
-
 -- what a line leaves: the yard, and what is printed
 pub record AfterLine : Type 0 where
-  pub yard : Yard
+  pub yard : State
   pub printed : List ℕ
-
--- 1 for a frame that has to wait
-abbrev pub waits : Bool → ℕ
-waits true = 0
-waits false = 1
 
 -- what a step prints: x is the issue that was offered, or the node of a deliver; `issues` are the lines of the frames that it issued
 unfoldable pub printedBy : ℕ → List ℕ → Outcome → List ℕ
@@ -78,31 +65,19 @@ printedBy x issues (outcome.Held count ready) = row 65 (x ∷ count ∷ [])
 printedBy x issues (outcome.Nothing tried) = row 78 (x ∷ tried ∷ [])
 printedBy x issues (outcome.Delivered issue tried extras) = row 68 (x ∷ issue ∷ tried ∷ []) ++ issues
 
--- the counters after a step
-unfoldable pub countedBy : Counters → Outcome → Counters
-countedBy t (outcome.Refused k) = t
-countedBy t (outcome.Sent extras) = countedSend t extras
-countedBy t (outcome.Held count ready) = countedOffer t (waits ready)
-countedBy t (outcome.Nothing tried) = countedNothing t tried
-countedBy t (outcome.Delivered issue tried extras) = countedDelivery t extras
-
 -- what a step leaves and prints
-abbrev pub afterStep : Yard → ℕ → AfterStep → AfterLine
-afterStep y x a =
-    record {
-      yard = record { world = a .world; counters = countedBy (y .counters) (a .outcome) };
-      printed = printedBy x (newRows (y .world) (a .world)) (a .outcome);
-    }
+abbrev pub afterStep : State → ℕ → AfterStep → AfterLine
+afterStep y x a = record { yard = stateAfter (y .counters) a; printed = printedBy x (newRows (y .world) (a .world)) (a .outcome) }
 
 -- a line of a yard of n nodes: S i j, A m, D j, and 17 for another line
-unfoldable pub line : ℕ → Yard → Command → AfterLine
+unfoldable pub line : ℕ → State → Command → AfterLine
 line n y (command.Send i j) = afterStep y i (sendStep n maxIssues (y .world) i j)
 line n y (command.Offer m) = afterStep y m (offerStep (y .world) m)
 line n y (command.Deliver j) = afterStep y j (deliverStep n maxIssues (y .world) j)
 line n y command.Other = record { yard = y; printed = refusalRow 17 }
 
 -- the lines behind the first: the last piece of the input is what stands behind the last line feed, and is another line where it is not empty; then T
-unfoldable pub lines : ℕ → Yard → List (List ℕ) → List ℕ
+unfoldable pub lines : ℕ → State → List (List ℕ) → List ℕ
 lines n y [] = totalRow (y .counters)
 lines n y (l ∷ []) = cond (eqb (length l) 0) [] (refusalRow 17) ++ totalRow (y .counters)
 lines n y (l ∷ m ∷ ls) = let a : AfterLine = line n y (command l) in a .printed ++ lines n (a .yard) (m ∷ ls)
@@ -112,10 +87,6 @@ lines n y (l ∷ m ∷ ls) = let a : AfterLine = line n y (command l) in a .prin
 -- `R 17` alone
 abbrev pub alone : List ℕ
 alone = refusalRow 17
-
--- the yard of n nodes with one cap, before its first step
-abbrev pub opened : ℕ → ℕ → Yard
-opened n cap = record { world = start n cap; counters = noCounters }
 
 -- n is 2 to 4 and cap in range, or `R 17` alone
 unfoldable pub started : FirstLine → List (List ℕ) → List ℕ

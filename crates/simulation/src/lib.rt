@@ -1,22 +1,24 @@
 //! The yard: parses its input line by line, steps the world, counts and prints.
-pub mod count;
 pub mod line;
 pub mod print;
 
 use commands::FirstLine;
-use counters::Counters;
+use counting::State;
 use node::Node;
+use text::Ran;
 use world::World;
 ghost use mathlib.Core.Path.{_≡_};
 ghost use Prim.Native.Nat.{ℕ, _+_, _≤_};
 ghost use lib.ListN.{length, drop};
 ghost use Rattle.text.specs.Pieces.{split};
+ghost use Rattle.text.specs.Wrote.{WroteWhole};
+ghost use Rattle.text.specs.Output.{afterRun, Fits};
 ghost use Rattle.commands.specs.declared.FirstLine.the-variants as first;
 ghost use Rattle.causality.specs.Demand3.{start};
 ghost use Rattle.world.specs.Stored.{Holds};
-ghost use Rattle.simulation.specs.Yard.{maxInput, maxIssues, lines, opened, started};
-ghost use Rattle.simulation.specs.Run.{outputSize, afterRun, runCall, Fits};
-ghost use Rattle.simulation.specs.Asked.{WroteWhole};
+ghost use Rattle.counting.specs.State.{opened};
+ghost use Rattle.simulation.specs.Yard.{maxInput, maxIssues, lines, started};
+ghost use Rattle.simulation.specs.Run.{outputSize, runCall};
 ghost use Rattle.simulation.specs.Stands.{Opened};
 
 /// Issues of a yard at most.
@@ -33,22 +35,10 @@ const QUEUES_SIZE: usize = Node::QUEUE_SIZE * world::MAX_SIMULATED;
 
 const LOG_SIZE: usize = Node::MAX_FRAME * MAX_ISSUES + Node::OUT_SIZE;
 
-/// A yard: the world of its list of steps, and the counters (document 01: the tally).
-pub struct Yard {
-    pub world: World,
-    pub counters: Counters,
-}
-
 /// What a line leaves: the yard, and where what it printed ends.
 pub struct Taken {
-    pub yard: Yard,
+    pub yard: State,
     pub end: usize,
-}
-
-/// What a run answers: that the output is too short, or how many bytes it wrote.
-pub enum Ran {
-    TooShort,
-    Written(usize),
 }
 
 // The lines behind the first, which begin at `from`: those that end with a line feed, and what stands behind the last one. Gives how many bytes are printed.
@@ -66,7 +56,7 @@ fn run_lines(
         → WroteWhole (lines n (opened n cap) (split 10 (drop from (now (input .entry))))) (now (out .entry)) r (now (out .exit))) ⌝ }
 {
     let counters = counters::no_counters();
-    let mut yard = Yard { world: w, counters };
+    let mut yard = State { world: w, counters };
     let mut pos: usize = 0;
     let mut at = from;
     let mut end = text::find(input, at, b'\n');
@@ -89,7 +79,7 @@ fn run_sizes(n: usize, cap: usize, input: &[u8], at: usize, out: &mut [u8]) -> u
 {
     let caps = [cap; world::MAX_SIMULATED];
     if !world::start::startable(n, caps) {
-        return print::put_refusal(out, 0, 17);
+        return text::put_refusal(out, 0, 17);
     }
     let mut queues = [0u8; QUEUES_SIZE];
     let mut log = [0u8; LOG_SIZE];
@@ -99,21 +89,21 @@ fn run_sizes(n: usize, cap: usize, input: &[u8], at: usize, out: &mut [u8]) -> u
 
 /// The yard: writes what it prints for an input. An output shorter than `OUTPUT_SIZE` is refused and left as it is.
 pub fn run(input: &[u8], out: &mut [u8]) -> Ran
-    ensures { λ r. ⌜ (afterRun r (now (out .exit)) ≡ runCall (now (input .entry)) (now (out .entry))) × Fits r ⌝ }
+    ensures { λ r. ⌜ (afterRun r (now (out .exit)) ≡ runCall (now (input .entry)) (now (out .entry))) × Fits outputSize r ⌝ }
 {
     if out.len() < OUTPUT_SIZE {
         return Ran::TooShort;
     }
     if MAX_INPUT < input.len() {
-        return Ran::Written(print::put_refusal(out, 0, 17));
+        return Ran::Written(text::put_refusal(out, 0, 17));
     }
     let end = text::find(input, 0, b'\n');
     if end == input.len() {
-        return Ran::Written(print::put_refusal(out, 0, 17));
+        return Ran::Written(text::put_refusal(out, 0, 17));
     }
     let first = commands::parse_first_line(&input[..end]);
     match first {
         FirstLine::Sizes { n, cap } => Ran::Written(run_sizes(n, cap, input, end + 1, out)),
-        FirstLine::Other => Ran::Written(print::put_refusal(out, 0, 17)),
+        FirstLine::Other => Ran::Written(text::put_refusal(out, 0, 17)),
     }
 }

@@ -1,11 +1,10 @@
 //! A line of the yard: its command is a step of the world, which is printed and counted.
 use super::MAX_ISSUES;
 use super::Taken;
-use super::Yard;
-use super::count;
 use super::print;
 use commands::Command;
 use counters::Counters;
+use counting::State;
 use world::Stepped;
 ghost use mathlib.Core.Path.{_≡_};
 ghost use mathlib.Core.List.{List};
@@ -14,9 +13,12 @@ ghost use lib.ListN.{length, take, drop};
 ghost use Rattle.commands.specs.Commands.{command};
 ghost use Rattle.commands.specs.declared.Command.the-variants as command;
 ghost use Rattle.world.specs.Stored.{Standing, StandingRecords};
-ghost use Rattle.simulation.specs.Yard.{Yard as Lists, maxIssues, issueRows, printedBy, countedBy, line};
-ghost use Rattle.simulation.specs.Asked.{Few, InLog, Logged, Small, Wrote};
-ghost use Rattle.simulation.specs.Stands.{Room, Stands, Took};
+ghost use Rattle.text.specs.Wrote.{Wrote};
+ghost use Rattle.counting.specs.State.{State as Lists, countedBy};
+ghost use Rattle.counting.specs.Stands.{Few, Stands};
+ghost use Rattle.simulation.specs.Yard.{maxIssues, issueRows, printedBy, line};
+ghost use Rattle.simulation.specs.Asked.{InLog, Logged, Small};
+ghost use Rattle.simulation.specs.Stands.{Room, Took};
 
 // What a step leaves and prints: before it there were `from` issues, of which the last ends at `place`.
 fn conclude(
@@ -38,19 +40,15 @@ fn conclude(
     let outcome = s.outcome;
     let to = s.world.issued;
     let end = print::put_outcome(out, at, x, outcome, log, place, from, to);
-    let counters = count::counted(t, outcome);
-    let world = s.world;
-    Taken {
-        yard: Yard { world, counters },
-        end,
-    }
+    let yard = counting::state_after(t, s);
+    Taken { yard, end }
 }
 
 // S: a send.
-fn send(y: Yard, i: usize, j: usize, log: &mut [u8], out: &mut [u8], at: usize) -> Taken
+fn send(y: State, i: usize, j: usize, log: &mut [u8], out: &mut [u8], at: usize) -> Taken
     requires { ⌜ StandingRecords maxIssues (y .world) (now log) × Room at y (now out) ⌝ }
     ensures { λ r. ⌜ (r .end + 17 * y .world .issued ≤ at + 20 + 17 * r .yard .world .issued)
-        × ((n cap k : ℕ) (z : Lists) (q : List ℕ) → k + 1 < 1000000000 → Stands n cap k z y q (now (log .entry))
+        × ((n cap k : ℕ) (z : Lists) (q : List ℕ) → k + 1 < 1000000000 → Stands n cap maxIssues k z y q (now (log .entry))
         → Took n cap k (line n z (command.Send i j)) at (now (out .entry)) r q (now (log .exit)) (now (out .exit))) ⌝ }
 {
     let from = y.world.issued;
@@ -62,10 +60,10 @@ fn send(y: Yard, i: usize, j: usize, log: &mut [u8], out: &mut [u8], at: usize) 
 }
 
 // A: an offer.
-fn offer(y: Yard, m: usize, queues: &mut [u8], log: &[u8], out: &mut [u8], at: usize) -> Taken
+fn offer(y: State, m: usize, queues: &mut [u8], log: &[u8], out: &mut [u8], at: usize) -> Taken
     requires { ⌜ (m < 1000) × Standing maxIssues (y .world) (now queues) (now log) × Room at y (now out) ⌝ }
     ensures { λ r. ⌜ (r .end + 17 * y .world .issued ≤ at + 20 + 17 * r .yard .world .issued)
-        × ((n cap k : ℕ) (z : Lists) → k + 1 < 1000000000 → Stands n cap k z y (now (queues .entry)) (now (log .entry))
+        × ((n cap k : ℕ) (z : Lists) → k + 1 < 1000000000 → Stands n cap maxIssues k z y (now (queues .entry)) (now (log .entry))
         → Took n cap k (line n z (command.Offer m)) at (now (out .entry)) r (now (queues .exit)) (now (log .entry)) (now (out .exit))) ⌝ }
 {
     let from = y.world.issued;
@@ -77,10 +75,17 @@ fn offer(y: Yard, m: usize, queues: &mut [u8], log: &[u8], out: &mut [u8], at: u
 }
 
 // D: a deliver.
-fn deliver(y: Yard, j: usize, queues: &mut [u8], log: &mut [u8], out: &mut [u8], at: usize) -> Taken
+fn deliver(
+    y: State,
+    j: usize,
+    queues: &mut [u8],
+    log: &mut [u8],
+    out: &mut [u8],
+    at: usize,
+) -> Taken
     requires { ⌜ (j < 1000) × Standing maxIssues (y .world) (now queues) (now log) × Room at y (now out) ⌝ }
     ensures { λ r. ⌜ (r .end + 17 * y .world .issued ≤ at + 20 + 17 * r .yard .world .issued)
-        × ((n cap k : ℕ) (z : Lists) → k + 1 < 1000000000 → Stands n cap k z y (now (queues .entry)) (now (log .entry))
+        × ((n cap k : ℕ) (z : Lists) → k + 1 < 1000000000 → Stands n cap maxIssues k z y (now (queues .entry)) (now (log .entry))
         → Took n cap k (line n z (command.Deliver j)) at (now (out .entry)) r (now (queues .exit)) (now (log .exit)) (now (out .exit))) ⌝ }
 {
     let from = y.world.issued;
@@ -93,7 +98,7 @@ fn deliver(y: Yard, j: usize, queues: &mut [u8], log: &mut [u8], out: &mut [u8],
 
 /// A line, which has its line feed no more: steps the world, counts, and prints from `at` on.
 pub fn take(
-    y: Yard,
+    y: State,
     text: &[u8],
     queues: &mut [u8],
     log: &mut [u8],
@@ -102,7 +107,7 @@ pub fn take(
 ) -> Taken
     requires { ⌜ Standing maxIssues (y .world) (now queues) (now log) × Room at y (now out) ⌝ }
     ensures { λ r. ⌜ (r .end + 17 * y .world .issued ≤ at + 5 * (length (now (text .entry)) + 1) + 17 * r .yard .world .issued)
-        × ((n cap k : ℕ) (z : Lists) → k + 1 < 1000000000 → Stands n cap k z y (now (queues .entry)) (now (log .entry))
+        × ((n cap k : ℕ) (z : Lists) → k + 1 < 1000000000 → Stands n cap maxIssues k z y (now (queues .entry)) (now (log .entry))
         → Took n cap k (line n z (command (now (text .entry)))) at (now (out .entry)) r (now (queues .exit)) (now (log .exit)) (now (out .exit))) ⌝ }
 {
     let c = commands::parse_command(text);
@@ -111,7 +116,7 @@ pub fn take(
         Command::Offer(m) => offer(y, m, queues, log, out, at),
         Command::Deliver(j) => deliver(y, j, queues, log, out, at),
         Command::Other => {
-            let end = print::put_refusal(out, at, 17);
+            let end = text::put_refusal(out, at, 17);
             Taken { yard: y, end }
         }
     }

@@ -8,18 +8,10 @@ ghost use Prim.Native.Nat.{ℕ, _+_, _-_, _*_, _≤_, _<_};
 ghost use mathlib.Core.Bool.{cond};
 ghost use lib.Dec.{eqb};
 ghost use lib.ListN.{length, drop};
-ghost use Rattle.text.specs.Print.{row};
-ghost use Rattle.simulation.specs.Yard.{refusalRow, headerRow, issueRows, printedBy, totalRow};
-ghost use Rattle.simulation.specs.Asked.{InLog, Logged, Small, Wrote};
-
-/// A refusal.
-pub fn put_refusal(out: &mut [u8], at: usize, why: u8) -> usize
-    requires { ⌜ at + 6 ≤ length (now out) ⌝ }
-    ensures { λ r. ⌜ (r ≤ at + 6) × Wrote (refusalRow why) at (now (out .entry)) r (now (out .exit)) ⌝ }
-{
-    let values = [why as u32];
-    text::put_row(out, at, b'R', &values)
-}
+ghost use Rattle.text.specs.Print.{refusalRow, row};
+ghost use Rattle.text.specs.Wrote.{Wrote};
+ghost use Rattle.simulation.specs.Yard.{headerRow, issueRows, printedBy, totalRow};
+ghost use Rattle.simulation.specs.Asked.{InLog, Logged, Small};
 
 // A letter with two numbers.
 fn put_two(out: &mut [u8], at: usize, letter: u8, a: usize, b: usize) -> usize
@@ -99,7 +91,7 @@ pub fn put_outcome(
         → Wrote (printedBy x (issueRows (from + 1) (drop from f)) o) at (now (out .entry)) r (now (out .exit))) ⌝ }
 {
     match o {
-        Outcome::Refused(why) => put_refusal(out, at, why),
+        Outcome::Refused(why) => text::put_refusal(out, at, why),
         Outcome::Sent(_) => put_issues(out, at, log, place, from, to),
         Outcome::Held { count, ready } => put_two(out, at, b'A', x, count),
         Outcome::Nothing(tried) => put_two(out, at, b'N', x, tried),
@@ -119,7 +111,7 @@ pub fn put_total(out: &mut [u8], at: usize, t: Counters) -> usize
     requires { ⌜ at + 57 ≤ length (now out) ⌝ }
     ensures { λ r. ⌜ (r ≤ at + 57) × Wrote (totalRow t) at (now (out .entry)) r (now (out .exit)) ⌝ }
 {
-    let values = [t.user, t.extras, t.delivered, t.delays, t.share];
+    let values = counters::totals(t);
     text::put_row(out, at, b'T', &values)
 }
 
@@ -129,7 +121,7 @@ pub fn put_ending(out: &mut [u8], at: usize, rest: bool, t: Counters) -> usize
     ensures { λ r. ⌜ (r ≤ at + 63) × Wrote (cond rest (refusalRow 17) [] ++ totalRow t) at (now (out .entry)) r (now (out .exit)) ⌝ }
 {
     if rest {
-        let end = put_refusal(out, at, 17);
+        let end = text::put_refusal(out, at, 17);
         return put_total(out, end, t);
     }
     put_total(out, at, t)

@@ -1,7 +1,7 @@
 -- Laws of printed numbers and lines. Assumes nothing.
 use Prim.Native.Nat.{_%_, _*_, _+_, _-_, _/_, _<_, _^_, _≤_, suc, zero, ℕ}
 use mathlib.Core.List.{List, [], _++_, _∷_, append-assoc}
-use mathlib.Core.Path.{_∙_, _≡_, ap, refl, sym}
+use mathlib.Core.Path.{_∙_, _≡_, ap, ap₂, refl, subst, sym}
 use native.Mathlib.Decide.{decLt}
 use native.Mathlib.Nat.{pow-le-pow-right, pow-suc}
 use native.Mathlib.Omega.{arith}
@@ -10,7 +10,11 @@ use lib.ListN.{drop, getD, length, length-append, length-set, set}
 use Rattle.wire.specs.Bytes.{put}
 use Rattle.wire.proofs.Bytes.{length-put, put-append, rest, rest-end}
 use Rattle.text.specs.Fields.{continued, value}
-use Rattle.text.specs.Print.{decimal, digits, row, spaced}
+use Rattle.text.specs.Output.{Fits, afterRun, printInto}
+use Rattle.text.specs.Print.{decimal, digits, lineEnd, numberRow, row, spaced}
+use Rattle.text.specs.Wrote.{Wrote, WroteWhole}
+use Rattle.text.specs.declared.Ran.{Ran}
+use Rattle.text.specs.declared.Ran.the-variants as ran
 use Rattle.text.specs.declared.Number.the-variants.{Is}
 use Rattle.text.proofs.Fields.{continued-append, digit-is, value-whole}
 
@@ -119,73 +123,113 @@ writes-more v at r o p h l e q = (omega (arith, decimal-longer v h l), rw (decim
 
 -- the length of a printed line by its parts
 pub length-row-nil : (l : ℕ) → length (row l []) ≡ 2
-unfolding row spaced
+unfolding row lineEnd spaced
 length-row-nil l = refl
 
 pub length-row-cons : (l v : ℕ) (vs : List ℕ) → length (row l (v ∷ vs)) ≡ 1 + length (decimal v) + length (row l vs)
-unfolding row spaced
+unfolding row lineEnd spaced
 length-row-cons l v vs = simp length-append (omega arith)
 
+-- of a number below 1000 behind a letter
+pub one-number : (l a : ℕ) → a < 1000 → length (row l (a ∷ [])) ≤ 6
+one-number l a h = omega (arith, length-row-cons l a [], length-row-nil l, decimal-few 3 a (omega arith) h)
+
+-- of five numbers of 32 bits behind a letter
+pub five-numbers : (l a b c d e : ℕ) → a < 4294967296 → b < 4294967296 → c < 4294967296 → d < 4294967296 → e < 4294967296
+    → length (row l (a ∷ b ∷ c ∷ d ∷ e ∷ [])) ≤ 57
+five-numbers l a b c d e ha hb hc hd he =
+    omega (
+      arith,
+      length-row-cons l a (b ∷ c ∷ d ∷ e ∷ []),
+      length-row-cons l b (c ∷ d ∷ e ∷ []),
+      length-row-cons l c (d ∷ e ∷ []),
+      length-row-cons l d (e ∷ []),
+      length-row-cons l e [],
+      length-row-nil l,
+      decimal-few 10 a (omega arith) (omega arith),
+      decimal-few 10 b (omega arith) (omega arith),
+      decimal-few 10 c (omega arith) (omega arith),
+      decimal-few 10 d (omega arith) (omega arith),
+      decimal-few 10 e (omega arith) (omega arith),
+    )
+
+-- a line with a letter and one without end alike
+pub length-row : (l : ℕ) (vs : List ℕ) → length (row l vs) ≡ 1 + length (lineEnd vs)
+unfolding row
+length-row l vs = omega arith
+
+pub length-numbers : (l v : ℕ) (vs : List ℕ) → length (numberRow v vs) + 1 ≡ length (decimal v) + length (row l vs)
+unfolding numberRow
+length-numbers l v vs = omega (arith, length-append (decimal v) (lineEnd vs), length-row l vs)
+
 -- what is left of a line behind some of its numbers: nothing but the line feed, or a number and what is left behind it
-unfoldable pub remaining : List ℕ → List ℕ
-remaining vs = spaced vs ++ (10 ∷ [])
+end-last : (vs : List ℕ) (i : ℕ) → length vs ≤ i → i ≤ length vs → lineEnd (drop i vs) ≡ 10 ∷ []
+unfolding lineEnd spaced
+end-last vs i h l = rw (rest-end vs i h l)
 
-pub row-starts : (l : ℕ) (vs : List ℕ) → row l vs ≡ l ∷ remaining vs
-unfolding row remaining
-row-starts l vs = refl
+end-goes : (vs : List ℕ) (i : ℕ) → i < length vs → lineEnd (drop i vs) ≡ 32 ∷ (decimal (getD vs i 0) ++ lineEnd (drop (i + 1) vs))
+unfolding lineEnd spaced
+end-goes vs i h = rw (rest vs i h) (ap (λ (s : List ℕ). 32 ∷ s) (append-assoc (decimal (getD vs i 0)) (spaced (drop (i + 1) vs)) (10 ∷ [])))
 
-pub row-ends : (vs : List ℕ) (i : ℕ) → length vs ≤ i → i ≤ length vs → remaining (drop i vs) ≡ 10 ∷ []
-unfolding remaining spaced
-row-ends vs i h l = rw (rest-end vs i h l)
-
-pub row-goes : (vs : List ℕ) (i : ℕ) → i < length vs → remaining (drop i vs) ≡ 32 ∷ (decimal (getD vs i 0) ++ remaining (drop (i + 1) vs))
-unfolding remaining spaced
-row-goes vs i h = rw (rest vs i h) (ap (λ (s : List ℕ). 32 ∷ s) (append-assoc (decimal (getD vs i 0)) (spaced (drop (i + 1) vs)) (10 ∷ [])))
-
--- the loop that prints a line: what stands in o up to place `end`, with i numbers printed, where the first stands from `start` on
+-- the loop that prints the end of a line: what stands in o up to place `end`, with i numbers printed, where the first stands from `start` on
 pub record Printing (start : ℕ) (vs o₀ o : List ℕ) (end i : ℕ) : Type 0 where
   pub turns : i ≤ length vs
   pub same : length o ≡ length o₀
-  pub room : end + length (remaining (drop i vs)) ≡ start + length (remaining vs)
-  pub bytes : put o end (remaining (drop i vs)) ≡ put o₀ start (remaining vs)
+  pub room : end + length (lineEnd (drop i vs)) ≡ start + length (lineEnd vs)
+  pub bytes : put o end (lineEnd (drop i vs)) ≡ put o₀ start (lineEnd vs)
 
 pub printing-starts : (start : ℕ) (vs o : List ℕ) → Printing start vs o o start 0
 printing-starts start vs o = record { turns = omega arith; same = refl; room = refl; bytes = refl }
 
--- where there is room for the whole line, there is for the next number, and for the line feed
-pub printing-fits : (l at : ℕ) (vs o₀ o : List ℕ) (end i : ℕ) → Printing (at + 1) vs (set o₀ at l) o end i → at + length (row l vs) ≤ length o₀ → i < length vs
-    → end + 1 + length (decimal (getD vs i 0)) ≤ length o
-printing-fits l at vs o₀ o end i k f h =
-    omega (
-      arith,
-      ap length (row-goes vs i h),
-      length-append (decimal (getD vs i 0)) (remaining (drop (i + 1) vs)),
-      ap length (row-starts l vs),
-      length-set o₀ at l,
-      k .room,
-      k .same,
-    )
+module _ (start : ℕ) (vs o₀ o : List ℕ) (end i : ℕ) (k : Printing start vs o₀ o end i) where
+  -- where there is room for the whole, there is for the next number, and for the line feed
+  pub printing-fits : start + length (lineEnd vs) ≤ length o₀ → i < length vs → end + 1 + length (decimal (getD vs i 0)) ≤ length o
+  printing-fits f h =
+      omega (arith, ap length (end-goes vs i h), length-append (decimal (getD vs i 0)) (lineEnd (drop (i + 1) vs)), k .room, k .same)
 
-pub printing-last : (l at : ℕ) (vs o₀ o : List ℕ) (end i : ℕ) → Printing (at + 1) vs (set o₀ at l) o end i
-    → at + length (row l vs) ≤ length o₀ → length vs ≤ i → end + 1 ≤ length o
-printing-last l at vs o₀ o end i k f h =
-    omega (arith, ap length (row-ends vs i h (k .turns)), ap length (row-starts l vs), length-set o₀ at l, k .room, k .same)
+  pub printing-last : start + length (lineEnd vs) ≤ length o₀ → length vs ≤ i → end + 1 ≤ length o
+  printing-last f h = omega (arith, ap length (end-last vs i h (k .turns)), k .room, k .same)
 
-pub printing-goes : (start : ℕ) (vs o₀ o p : List ℕ) (end next i : ℕ) → Printing start vs o₀ o end i → i < length vs
-    → next ≡ end + 1 + length (decimal (getD vs i 0)) → p ≡ put (set o end 32) (end + 1) (decimal (getD vs i 0)) → Printing start vs o₀ p next (i + 1)
-unfolding put
-printing-goes start vs o₀ o p end next i k h e q =
-    let m = row-goes vs i h in record {
-      turns = omega arith;
-      same = ap length q ∙ length-put (set o end 32) (end + 1) (decimal (getD vs i 0)) ∙ length-set o end 32 ∙ k .same;
-      room = omega (arith, ap length m, length-append (decimal (getD vs i 0)) (remaining (drop (i + 1) vs)), k .room);
-      bytes = rw (q, e) (sym (put-append (set o end 32) (end + 1) (decimal (getD vs i 0)) (remaining (drop (i + 1) vs))) ∙ rw m at (k .bytes));
-    }
+  pub printing-goes : (p : List ℕ) (next : ℕ) → i < length vs → next ≡ end + 1 + length (decimal (getD vs i 0))
+      → p ≡ put (set o end 32) (end + 1) (decimal (getD vs i 0)) → Printing start vs o₀ p next (i + 1)
+  unfolding put
+  printing-goes p next h e q =
+      let m = end-goes vs i h in record {
+        turns = omega arith;
+        same = ap length q ∙ length-put (set o end 32) (end + 1) (decimal (getD vs i 0)) ∙ length-set o end 32 ∙ k .same;
+        room = omega (arith, ap length m, length-append (decimal (getD vs i 0)) (lineEnd (drop (i + 1) vs)), k .room);
+        bytes = rw (q, e) (sym (put-append (set o end 32) (end + 1) (decimal (getD vs i 0)) (lineEnd (drop (i + 1) vs))) ∙ rw m at (k .bytes));
+      }
 
--- the line with its letter in front and its line feed behind
-pub printing-ends : (l at : ℕ) (vs o₀ o : List ℕ) (end i : ℕ) → Printing (at + 1) vs (set o₀ at l) o end i → length vs ≤ i
-    → (end + 1 ≡ at + length (row l vs)) × (set o end 10 ≡ put o₀ at (row l vs))
-unfolding put
-printing-ends l at vs o₀ o end i k h =
-    let m = row-ends vs i h (k .turns) in
-    (rw (row-starts l vs) (omega (arith, ap length m, k .room)), rw (row-starts l vs) (rw m at (k .bytes)))
+  pub printing-ends : length vs ≤ i → (end + 1 ≡ start + length (lineEnd vs)) × (set o end 10 ≡ put o₀ start (lineEnd vs))
+  unfolding put
+  printing-ends h = let m = end-last vs i h (k .turns) in (omega (arith, ap length m, k .room), rw m at (k .bytes))
+
+-- what is written is what is printed
+pub shown : (p q : List ℕ) (at r : ℕ) (o o′ : List ℕ) → p ≡ q → r ≡ at + length q → o′ ≡ put o at q → Wrote p at o r o′
+shown p q at r o o′ e l b = (l ∙ ap (λ (x : List ℕ). at + length x) (sym e), b ∙ ap (put o at) (sym e))
+
+-- the same from the output's front on
+pub shown-first : (p q : List ℕ) (r : ℕ) (o o′ : List ℕ) → p ≡ q → r ≡ length q → o′ ≡ put o 0 q → WroteWhole p o r o′
+shown-first p q r o o′ e l b = (l ∙ ap length (sym e), b ∙ ap (put o 0) (sym e))
+
+-- one text behind the other
+pub shown-both : (p q : List ℕ) (at r s : ℕ) (o o′ o″ : List ℕ) → r ≡ at + length p → o′ ≡ put o at p → s ≡ r + length q
+    → o″ ≡ put o′ r q → Wrote (p ++ q) at o s o″
+shown-both p q at r s o o′ o″ l b m d = (omega (arith, length-append p q), rw (d, b, l) (sym (put-append o at p q)))
+
+-- what a run that prints leaves: of an output that is too short, and of one that is not
+module _ (size : ℕ) (p o : List ℕ) where
+  pub run-short : length o < size → afterRun ran.TooShort o ≡ printInto size p o
+  unfolding printInto
+  run-short h = rw (lt-ltb (length o) size h)
+
+  pub run-written : size ≤ length o → (q : List ℕ) → p ≡ q → (r : ℕ) (o′ : List ℕ) → r ≡ length q → o′ ≡ put o 0 q
+      → afterRun (ran.Written r) o′ ≡ printInto size p o
+  unfolding printInto
+  run-written h q e r o′ er eo =
+      rw (le-ltb (length o) size h) (ap₂ (λ (x : ℕ) (y : List ℕ). afterRun (ran.Written x) y) (er ∙ ap length (sym e)) (eo ∙ ap (put o 0) (sym e)))
+
+-- and what it wrote fits an output that is long enough
+pub written-fits : (size : ℕ) (r : Ran) (k : ℕ) (o : List ℕ) → r ≡ ran.Written k → Fits size r → size ≤ length o → k ≤ length o
+written-fits size r k o e f h = let g : k ≤ size = subst (Fits size) e f in omega arith

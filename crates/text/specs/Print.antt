@@ -18,6 +18,18 @@ unfoldable pub spaced : List ℕ → List ℕ
 spaced [] = []
 spaced (v ∷ vs) = 32 ∷ (decimal v ++ spaced vs)
 
--- a printed line: its letter, the numbers, a line feed
+-- the end of a printed line: the numbers, a line feed
+unfoldable pub lineEnd : List ℕ → List ℕ
+lineEnd vs = spaced vs ++ (10 ∷ [])
+
+-- a printed line with a letter: the letter, the numbers, a line feed
 unfoldable pub row : ℕ → List ℕ → List ℕ
-row letter vs = letter ∷ (spaced vs ++ (10 ∷ []))
+row letter vs = letter ∷ lineEnd vs
+
+-- a printed line without a letter: the first number, the others, a line feed
+unfoldable pub numberRow : ℕ → List ℕ → List ℕ
+numberRow v vs = decimal v ++ lineEnd vs
+
+-- a refusal (document 01, *The yard*): R, which is 82 in ASCII, and its number
+abbrev pub refusalRow : ℕ → List ℕ
+refusalRow k = row 82 (k ∷ [])

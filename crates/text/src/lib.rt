@@ -5,12 +5,19 @@ ghost use lib.ListN.{length, drop};
 ghost use Rattle.wire.specs.Bytes.{put};
 ghost use Rattle.text.specs.Before.{before};
 ghost use Rattle.text.specs.Fields.{isDigit, value};
-ghost use Rattle.text.specs.Print.{decimal, row};
+ghost use Rattle.text.specs.Print.{decimal, lineEnd, row, numberRow, refusalRow};
+ghost use Rattle.text.specs.Wrote.{Wrote};
 
 /// What a field says: a number, or none.
 pub enum Number {
     Is(u64),
     Not,
+}
+
+/// What a run that prints answers: that its output is too short, or how many bytes it wrote.
+pub enum Ran {
+    TooShort,
+    Written(usize),
 }
 
 /// The place of the first byte c at or after `at`, or the length of s where there is none.
@@ -73,7 +80,7 @@ pub fn value(s: &[u8], most: usize) -> Number
 /// Writes v in decimal from `at` on, and gives the place after it.
 pub fn put_decimal(out: &mut [u8], at: usize, v: u32) -> usize
     requires { ⌜ at + length (decimal v) ≤ length (now out) ⌝ }
-    ensures { λ r. ⌜ (r ≡ at + length (decimal v)) × (now (out .exit) ≡ put (now (out .entry)) at (decimal v)) ⌝ }
+    ensures { λ r. ⌜ Wrote (decimal v) at (now (out .entry)) r (now (out .exit)) ⌝ }
 {
     if v < 10 {
         out[at] = b'0' + v as u8;
@@ -84,13 +91,12 @@ pub fn put_decimal(out: &mut [u8], at: usize, v: u32) -> usize
     last + 1
 }
 
-/// Writes a printed line from `at` on: its letter, each number behind one space, a line feed. Gives the place after it.
-pub fn put_row(out: &mut [u8], at: usize, letter: u8, values: &[u32]) -> usize
-    requires { ⌜ at + length (row letter (now values)) ≤ length (now out) ⌝ }
-    ensures { λ r. ⌜ (r ≡ at + length (row letter (now (values .entry)))) × (now (out .exit) ≡ put (now (out .entry)) at (row letter (now (values .entry)))) ⌝ }
+// Writes the end of a printed line from `at` on: each number behind one space, a line feed. Gives the place after it.
+fn put_line_end(out: &mut [u8], at: usize, values: &[u32]) -> usize
+    requires { ⌜ at + length (lineEnd (now values)) ≤ length (now out) ⌝ }
+    ensures { λ r. ⌜ Wrote (lineEnd (now (values .entry))) at (now (out .entry)) r (now (out .exit)) ⌝ }
 {
-    out[at] = letter;
-    let mut end = at + 1;
+    let mut end = at;
     let mut i = 0;
     while i < values.len() {
         out[end] = b' ';
@@ -99,4 +105,31 @@ pub fn put_row(out: &mut [u8], at: usize, letter: u8, values: &[u32]) -> usize
     }
     out[end] = b'\n';
     end + 1
+}
+
+/// Writes a printed line with a letter from `at` on: the letter, each number behind one space, a line feed. Gives the place after it.
+pub fn put_row(out: &mut [u8], at: usize, letter: u8, values: &[u32]) -> usize
+    requires { ⌜ at + length (row letter (now values)) ≤ length (now out) ⌝ }
+    ensures { λ r. ⌜ Wrote (row letter (now (values .entry))) at (now (out .entry)) r (now (out .exit)) ⌝ }
+{
+    out[at] = letter;
+    put_line_end(out, at + 1, values)
+}
+
+/// Writes a printed line without a letter from `at` on: the first number, each other number behind one space, a line feed. Gives the place after it.
+pub fn put_numbers(out: &mut [u8], at: usize, first: u32, values: &[u32]) -> usize
+    requires { ⌜ at + length (numberRow first (now values)) ≤ length (now out) ⌝ }
+    ensures { λ r. ⌜ Wrote (numberRow first (now (values .entry))) at (now (out .entry)) r (now (out .exit)) ⌝ }
+{
+    let end = put_decimal(out, at, first);
+    put_line_end(out, end, values)
+}
+
+/// Writes a refusal's line from `at` on, and gives the place after it.
+pub fn put_refusal(out: &mut [u8], at: usize, why: u8) -> usize
+    requires { ⌜ at + 6 ≤ length (now out) ⌝ }
+    ensures { λ r. ⌜ (r ≤ at + 6) × Wrote (refusalRow why) at (now (out .entry)) r (now (out .exit)) ⌝ }
+{
+    let values = [why as u32];
+    put_row(out, at, b'R', &values)
 }

@@ -75,11 +75,10 @@ fresh-counts : (n c : ℕ) → (fresh n (c ∷ c ∷ c ∷ c ∷ []) .n ≡ n) �
 unfolding fresh
 fresh-counts n c = (refl, refl, refl, refl)
 
--- the world before the first step, in queues of zeros and a log of any bytes
-pub holds-start : (n c limit : ℕ) → startable n (c ∷ c ∷ c ∷ c ∷ []) ≡ true → (q l : List ℕ) → q ≡ zeros (queueSize * maxSimulated) → length l ≡ logSize limit
+-- the world before the first step of nodes in range, in queues of zeros and a log of any bytes
+pub holds-start : (n c limit : ℕ) → Opens n c → (q l : List ℕ) → q ≡ zeros (queueSize * maxSimulated) → length l ≡ logSize limit
     → Holds n c limit 0 (start n c) (fresh n (c ∷ c ∷ c ∷ c ∷ [])) q l
-holds-start n c limit s q l z e =
-    let o = opens n c s in
+holds-start n c limit o q l z e =
     let f = fresh-counts n c in
     record {
       range = o .range;

@@ -1,5 +1,5 @@
 //! The program `yard`: standard input to standard output. One byte more than the longest input is read, which tells longer input.
-use simulation::Ran;
+use text::Ran;
 
 // Writes the output, or says on standard error that it cannot be written.
 fn print(output: &[u8]) {

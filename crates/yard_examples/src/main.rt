@@ -1,5 +1,5 @@
 //! Runs the yard on each file that an argument names, and writes the file's name and what the yard prints.
-use simulation::Ran;
+use text::Ran;
 
 // One file.
 fn one(k: usize) {

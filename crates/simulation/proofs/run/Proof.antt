@@ -3,13 +3,16 @@ use mathlib.Core.Path.{_∙_, sym}
 use native.Mathlib.Nat.{zero-add}
 use native.Mathlib.Omega.{arith}
 use lib.Seq.{length-take-le}
-use Rattle.simulation.proofs.Runs.{output-first, output-long, output-none, output-other, run-short, run-written}
+use Rattle.text.proofs.Print.{run-short, run-written}
+use Rattle.simulation.specs.Run.{runCall}
+use Rattle.simulation.proofs.Runs.{output-first, output-long, output-none, output-other}
 use borrow.Author.Needs.{needs}
 use Rattle.simulation.proofs.run.Statement.{statement}
 use Rattle.simulation.proofs.run.Tie as tie
 
 returns : tie.Need-returns
-returns c = (run-short _ _ (c .if1 .taken), tt)
+unfolding runCall
+returns c = (run-short _ _ _ (c .if1 .taken), tt)
 
 put-refusal-requires : tie.Need-put-refusal-requires
 put-refusal-requires c κs = search needs
@@ -18,9 +21,10 @@ same-length : tie.Need-same-length
 same-length c = search needs
 
 returns-2 : tie.Need-returns-2
+unfolding runCall
 returns-2 c =
     let r = c .before .before .put-refusal .ensures in
-    (run-written _ _ (omega arith) _ (output-long _ (omega arith)) _ _ (r .1 .0 ∙ zero-add _) (r .1 .1), omega (arith, r .0))
+    (run-written _ _ _ (omega arith) _ (output-long _ (omega arith)) _ _ (r .1 .0 ∙ zero-add _) (r .1 .1), omega (arith, r .0))
 
 find-requires : tie.Need-find-requires
 find-requires c κs = search needs
@@ -32,10 +36,11 @@ same-length-2 : tie.Need-same-length-2
 same-length-2 c = search needs
 
 returns-3 : tie.Need-returns-3
+unfolding runCall
 returns-3 c =
     let w = c .before .before .before .before .before in
     let r = c .before .before .put-refusal2 .ensures in (
-      run-written _ _ (omega arith) _ (output-none _ (omega arith) _ (w .find .ensures .0) (c .before .before .before .before .if3 .taken)) _ _
+      run-written _ _ _ (omega arith) _ (output-none _ (omega arith) _ (w .find .ensures .0) (c .before .before .before .before .if3 .taken)) _ _
           (r .1 .0 ∙ zero-add _) (r .1 .1),
       omega (arith, r .0),
     )
@@ -65,12 +70,13 @@ same-length-3 : tie.Need-same-length-3
 same-length-3 c = search needs
 
 returns-4 : tie.Need-returns-4
+unfolding runCall
 returns-4 c =
     let w = c .before .before .before .before .before .before .before .before .before .before in
     let r = c .before .before .run-sizes .ensures in
     let e = sym (c .before .before .before .before .before .before .before .parse-first-line .ensures)
     ∙ c .before .before .before .before .before .first .given .1 in (
-      run-written _ _ (omega arith) _ (output-first _ (omega arith) _ (w .find .ensures .0) (omega (arith, w .find .ensures .1)) _ e) _ _ (r .1 .0) (r .1 .1),
+      run-written _ _ _ (omega arith) _ (output-first _ (omega arith) _ (w .find .ensures .0) (omega (arith, w .find .ensures .1)) _ e) _ _ (r .1 .0) (r .1 .1),
       r .0,
     )
 
@@ -78,11 +84,12 @@ same-length-4 : tie.Need-same-length-4
 same-length-4 c = search needs
 
 returns-5 : tie.Need-returns-5
+unfolding runCall
 returns-5 c =
     let w = c .before .before .before .before .before .before .before .before .before in
     let r = c .before .before .put-refusal3 .ensures in
     let e = sym (c .before .before .before .before .before .before .parse-first-line .ensures) ∙ c .before .before .before .before .enum-told .given .1 in (
-      run-written _ _ (omega arith) _ (output-other _ (omega arith) _ (w .find .ensures .0) (omega (arith, w .find .ensures .1)) e) _ _
+      run-written _ _ _ (omega arith) _ (output-other _ (omega arith) _ (w .find .ensures .0) (omega (arith, w .find .ensures .1)) e) _ _
           (r .1 .0 ∙ zero-add _) (r .1 .1),
       omega (arith, r .0),
     )

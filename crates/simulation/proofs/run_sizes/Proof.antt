@@ -6,7 +6,7 @@ use native.Mathlib.Omega.{arith}
 use Rattle.wire.proofs.Tests.{denied, passed}
 use Rattle.world.specs.Stored.{logSize}
 use Rattle.simulation.specs.Run.{outputSize}
-use Rattle.simulation.proofs.Outcomes.{shown-first}
+use Rattle.text.proofs.Print.{shown-first}
 use Rattle.simulation.proofs.Runs.{started-no, started-yes, stored-start}
 use borrow.Author.Needs.{needs}
 use Rattle.simulation.proofs.run_sizes.Statement.{statement}

@@ -4,7 +4,7 @@ use mathlib.Core.Path.{sym}
 use native.Mathlib.Omega.{arith}
 use lib.ListN.{length}
 use lib.Seq.{length-take-le}
-use Rattle.simulation.proofs.Runs.{written-fits}
+use Rattle.text.proofs.Print.{written-fits}
 use borrow.Author.Needs.{needs}
 use Rattle.yard.proofs.main.Statement.{statement}
 use Rattle.yard.proofs.main.Tie as tie
@@ -37,7 +37,7 @@ enum-known-ran c = search needs
 fits : (c : tie.After-known-told) → c .before .ran .given .0 .0 ≤ length (c .before .before .before .before .run .last .1 .0)
 fits c =
     let w = c .before .before .before .before in
-    written-fits _ _ (w .run .last .1 .0) (c .before .ran .given .1) (w .run .ensures .1) (omega (arith, w .run .kept .1 .0))
+    written-fits _ _ _ (w .run .last .1 .0) (c .before .ran .given .1) (w .run .ensures .1) (omega (arith, w .run .kept .1 .0))
 
 array-share-prefix-out : tie.Need-array-share-prefix-out
 array-share-prefix-out c = fits c

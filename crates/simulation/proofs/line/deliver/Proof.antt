@@ -1,8 +1,9 @@
 -- A deliver, concluded. Assumes nothing.
 use native.Mathlib.Omega.{arith}
 use borrow.Author.Needs.{needs}
+use Rattle.counting.proofs.Counts.{few-as, deliver-few}
 use Rattle.simulation.specs.Yard.{line, maxIssues}
-use Rattle.simulation.proofs.Concluding.{bounded, enough, few-told, logged, small-told, took-step}
+use Rattle.simulation.proofs.Concluding.{bounded, enough, logged, small-told, took-step}
 use Rattle.simulation.proofs.Facts.{deliver-facts}
 use Rattle.simulation.proofs.line.deliver.Statement.{statement}
 use Rattle.simulation.proofs.line.deliver.Tie as tie
@@ -17,8 +18,8 @@ conclude-requires c κs =
     let p = a .pre in
     let d = p .1 in
     let t = s .deliver .ensures (d .n) (d .cap) (d .k) (d .world) (d .more) (d .holds) in
-    let f = deliver-facts (d .n) maxIssues (d .world) (a .args .j) (omega (arith, d .holds .below)) (p .0) in (
-      few-told _ _ _ _ _ _ _ (d .holds) _ _ f _ _ _ t,
+    let f = deliver-facts (d .world) (d .n) maxIssues (a .args .j) (omega (arith, d .holds .below)) (p .0) in (
+      few-as _ _ (t .0) (deliver-few (d .world) (d .n) maxIssues (a .args .j)),
       small-told _ _ _ _ _ _ _ (d .holds) _ _ f _ _ _ t,
       logged _ _ _ _ _ _ _ (d .holds) _ _ f _ _ _ t,
       enough _ _ _ _ _ _ _ (d .holds) _ _ f _ _ _ t _ (a .args .out .now) (p .2),
@@ -42,9 +43,9 @@ returns c =
     let d = p .1 in
     let t = s .deliver .ensures (d .n) (d .cap) (d .k) (d .world) (d .more) (d .holds) in
     let r = c .before .before .conclude .ensures in (
-      bounded _ _ _ _ _ _ _ (d .holds) _ _ (deliver-facts (d .n) maxIssues (d .world) (a .args .j) (omega (arith, d .holds .below)) (p .0)) _ _ _ t
+      bounded _ _ _ _ _ _ _ (d .holds) _ _ (deliver-facts (d .world) (d .n) maxIssues (a .args .j) (omega (arith, d .holds .below)) (p .0)) _ _ _ t
           (c .before .before .conclude .result) _ (r .0) (r .2),
-      λ n cap k z short st. took-step n cap k z _ _ _ _ (st .world) (st .counters) _ _ (deliver-facts n maxIssues (z .world) (a .args .j)
+      λ n cap k z short st. took-step n cap k z _ _ _ _ (st .world) (st .counters) _ _ (deliver-facts (z .world) n maxIssues (a .args .j)
           (omega (arith, st .world .below)) (p .0)) _ _ _ (s .deliver .ensures n cap k (z .world) short (st .world)) _ _ _ _ (r .0) (r .1) (r .3),
     )
 

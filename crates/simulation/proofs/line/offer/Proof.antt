@@ -1,7 +1,8 @@
 -- An offer, concluded. Assumes nothing.
 use borrow.Author.Needs.{needs}
+use Rattle.counting.proofs.Counts.{few-as, offer-few}
 use Rattle.simulation.specs.Yard.{line}
-use Rattle.simulation.proofs.Concluding.{bounded, enough, few-told, logged, small-told, took-step}
+use Rattle.simulation.proofs.Concluding.{bounded, enough, logged, small-told, took-step}
 use Rattle.simulation.proofs.Facts.{offer-facts}
 use Rattle.simulation.proofs.line.offer.Statement.{statement}
 use Rattle.simulation.proofs.line.offer.Tie as tie
@@ -17,7 +18,7 @@ conclude-requires c κs =
     let d = p .1 in
     let t = s .offer .ensures (d .n) (d .cap) (d .k) (d .world) (d .more) (d .holds) in
     let f = offer-facts (d .world) (a .args .m) (p .0) in (
-      few-told _ _ _ _ _ _ _ (d .holds) _ _ f _ _ _ t,
+      few-as _ _ (t .0) (offer-few (d .world) (a .args .m)),
       small-told _ _ _ _ _ _ _ (d .holds) _ _ f _ _ _ t,
       logged _ _ _ _ _ _ _ (d .holds) _ _ f _ _ _ t,
       enough _ _ _ _ _ _ _ (d .holds) _ _ f _ _ _ t _ (a .args .out .now) (p .2),

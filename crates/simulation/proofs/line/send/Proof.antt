@@ -1,7 +1,8 @@
 -- A send, concluded. Assumes nothing.
 use borrow.Author.Needs.{needs}
+use Rattle.counting.proofs.Counts.{few-as, send-few}
 use Rattle.simulation.specs.Yard.{line, maxIssues}
-use Rattle.simulation.proofs.Concluding.{bounded, enough, few-told, logged, small-told, took-step}
+use Rattle.simulation.proofs.Concluding.{bounded, enough, logged, small-told, took-step}
 use Rattle.simulation.proofs.Facts.{send-facts}
 use Rattle.simulation.proofs.line.send.Statement.{statement}
 use Rattle.simulation.proofs.line.send.Tie as tie
@@ -16,8 +17,8 @@ conclude-requires c κs =
     let p = a .pre in
     let d = p .0 .1 in
     let t = s .send .ensures (d .n) (d .cap) (d .k) (d .world) (p .0 .0) (d .more) (d .holds) in
-    let f = send-facts (a .args .i) (d .n) maxIssues (d .world) (a .args .i) (a .args .j) in (
-      few-told _ _ _ _ _ _ _ (d .holds) _ _ f _ _ _ t,
+    let f = send-facts (d .world) (a .args .i) (d .n) maxIssues (a .args .i) (a .args .j) in (
+      few-as _ _ (t .0) (send-few (d .world) (d .n) maxIssues (a .args .i) (a .args .j)),
       small-told _ _ _ _ _ _ _ (d .holds) _ _ f _ _ _ t,
       logged _ _ _ _ _ _ _ (d .holds) _ _ f _ _ _ t,
       enough _ _ _ _ _ _ _ (d .holds) _ _ f _ _ _ t _ (a .args .out .now) (p .1),
@@ -38,9 +39,9 @@ returns c =
     let d = p .0 .1 in
     let t = s .send .ensures (d .n) (d .cap) (d .k) (d .world) (p .0 .0) (d .more) (d .holds) in
     let r = c .before .before .conclude .ensures in (
-      bounded _ _ _ _ _ _ _ (d .holds) _ _ (send-facts (a .args .i) (d .n) maxIssues (d .world) (a .args .i) (a .args .j)) _ _ _ t
+      bounded _ _ _ _ _ _ _ (d .holds) _ _ (send-facts (d .world) (a .args .i) (d .n) maxIssues (a .args .i) (a .args .j)) _ _ _ t
           (c .before .before .conclude .result) _ (r .0) (r .2),
-      λ n cap k z q short st. took-step n cap k z _ _ q _ (st .world) (st .counters) _ _ (send-facts (a .args .i) n maxIssues (z .world) (a .args .i)
+      λ n cap k z q short st. took-step n cap k z _ _ q _ (st .world) (st .counters) _ _ (send-facts (z .world) (a .args .i) n maxIssues (a .args .i)
           (a .args .j)) _ _ _ (s .send .ensures n cap k (z .world) q short (st .world)) _ _ _ _ (r .0) (r .1) (r .3),
     )
 

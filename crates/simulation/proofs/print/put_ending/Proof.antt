@@ -1,6 +1,6 @@
 -- With bytes left or without. Assumes nothing.
 use native.Mathlib.Omega.{arith}
-use Rattle.simulation.proofs.Outcomes.{shown-both}
+use Rattle.text.proofs.Print.{shown-both}
 use borrow.Author.Needs.{needs}
 use Rattle.simulation.proofs.print.put_ending.Statement.{statement}
 use Rattle.simulation.proofs.print.put_ending.Tie as tie

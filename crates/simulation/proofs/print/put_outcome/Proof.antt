@@ -1,6 +1,7 @@
 -- By the outcome, one line, or the lines of the frames issued. Assumes nothing.
 use native.Mathlib.Omega.{arith}
-use Rattle.simulation.proofs.Outcomes.{shown, shown-delivered, printed-refused, printed-sent, printed-held}
+use Rattle.text.proofs.Print.{shown}
+use Rattle.simulation.proofs.Outcomes.{shown-delivered, printed-refused, printed-sent, printed-held}
 use Rattle.simulation.proofs.Outcomes.{printed-nothing, small-held, small-nothing, small-delivered}
 use Rattle.simulation.proofs.Rows.{two-numbers, three-numbers}
 use borrow.Author.Needs.{needs}

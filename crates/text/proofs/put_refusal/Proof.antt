@@ -1,9 +1,9 @@
 -- There is room for one number. Assumes nothing.
 use native.Mathlib.Omega.{arith}
-use Rattle.simulation.proofs.Rows.{one-number}
+use Rattle.text.proofs.Print.{one-number}
 use borrow.Author.Needs.{needs}
-use Rattle.simulation.proofs.print.put_refusal.Statement.{statement}
-use Rattle.simulation.proofs.print.put_refusal.Tie as tie
+use Rattle.text.proofs.put_refusal.Statement.{statement}
+use Rattle.text.proofs.put_refusal.Tie as tie
 
 slice-aggregate-put-row : tie.Need-slice-aggregate-put-row
 slice-aggregate-put-row c = search needs

@@ -2,11 +2,11 @@
 use mathlib.Core.Path.{_∙_, ap, sym}
 use native.Mathlib.Omega.{arith}
 use Rattle.counters.specs.Counted.{countedOffer}
-use Rattle.simulation.specs.Yard.{countedBy}
-use Rattle.simulation.proofs.Outcomes.{few-sent, few-nothing, few-delivered}
+use Rattle.counting.specs.State.{countedBy}
+use Rattle.counting.proofs.Counts.{few-sent, few-nothing, few-delivered}
 use borrow.Author.Needs.{needs}
-use Rattle.simulation.proofs.count.counted.Statement.{statement}
-use Rattle.simulation.proofs.count.counted.Tie as tie
+use Rattle.counting.proofs.counted.Statement.{statement}
+use Rattle.counting.proofs.counted.Tie as tie
 
 enum-told : tie.Need-enum-told
 enum-told c = search needs
