@@ -1,6 +1,6 @@
 -- The generator never stops: each of a draw's three steps keeps 32 bits that are not 0. Assumes nothing.
 use Prim.Native.Nat.{_%_, _*_, _+_, _/_, _<_, _^_, suc, zero, ℕ}
-use mathlib.Core.Path.{_∙_, _≡_, ap, refl, sym}
+use mathlib.Core.Path.{_∙_, _≡_, refl, sym}
 use native.Mathlib.Nat.{add-mul, add-mul-mod-self-left, mod-add-div, mod-eq-of-lt, mul-assoc, mul-comm, mul-one, pow-suc, pow-zero}
 use native.Mathlib.Omega.{arith}
 use lib.Bits.{and-le-l, and-le-r, bitXor, xor-add-and, xor-lt}
