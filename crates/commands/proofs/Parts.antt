@@ -1,14 +1,13 @@
 -- The pieces of a line at the places that one search after another found. Assumes nothing.
 use Prim.Native.Nat.{_+_, _-_, _<_, _≤_, suc, zero, ℕ}
 use mathlib.Core.List.{List, [], _∷_}
-use mathlib.Core.Path.{_∙_, _≡_, refl}
-use native.Mathlib.Nat.{sub-zero}
+use mathlib.Core.Path.{_≡_, refl}
 use native.Mathlib.Omega.{arith}
 use lib.ListN.{drop, getD, length, take}
 use Rattle.text.specs.Fields.{value}
 use Rattle.text.specs.Pieces.{split}
 use Rattle.text.specs.Before.{before}
-use Rattle.text.proofs.Pieces.{split-found, split-last, split-none, split-some}
+use Rattle.text.proofs.Pieces.{one-piece, second-piece, split-some, third-piece, three-pieces, two-pieces}
 use Rattle.commands.specs.Commands as commands
 use Rattle.commands.specs.FirstLine as firstLine
 use Rattle.commands.specs.declared.Command.the-variants as Command
@@ -27,22 +26,6 @@ pub letter-one : (s : List ℕ) (end : ℕ) → end ≤ length s → end ≡ 1 �
 unfolding commands.letter
 letter-one [] end h e = absurd (omega arith)
 letter-one (b ∷ s) end h e = rw e
-
--- a line is one piece, or its first piece goes up to place a
-module _ (c : ℕ) (s : List ℕ) (a : ℕ) (first : a ≡ 0 + before c (drop 0 s)) where
-  pub one-piece : a ≡ length s → split c s ≡ s ∷ []
-  one-piece h = split-none c s 0 a first h (omega arith)
-
-  pub first-piece : a < length s → split c s ≡ take a s ∷ split c (drop (a + 1) s)
-  first-piece h = split-found c s 0 a first h ∙ rw sub-zero
-
--- it is two pieces, or the second one goes up to place b
-module _ (c : ℕ) (s : List ℕ) (a b : ℕ) (first : a ≡ 0 + before c (drop 0 s)) (more : a < length s) (second : b ≡ a + 1 + before c (drop (a + 1) s)) where
-  pub two-pieces : b ≡ length s → split c s ≡ take a s ∷ take (b - (a + 1)) (drop (a + 1) s) ∷ []
-  two-pieces h = first-piece c s a first more ∙ rw (split-last c s (a + 1) b second h (omega arith))
-
-  pub second-piece : b < length s → split c s ≡ take a s ∷ take (b - (a + 1)) (drop (a + 1) s) ∷ split c (drop (b + 1) s)
-  second-piece h = first-piece c s a first more ∙ rw (split-found c s (a + 1) b second h)
 
 -- pieces behind the last one that a line may have
 pub command-longer : (l i j : List ℕ) (ps : List (List ℕ)) → 1 ≤ length ps → commands.ofPieces (l ∷ i ∷ j ∷ ps) ≡ Command.Other
@@ -87,11 +70,11 @@ module _ (s : List ℕ) (a b e : ℕ) (first : a ≡ 0 + before 32 (drop 0 s)) (
       → commands.command s ≡ commands.withTwo (commands.letter (take a s)) (value 3 (take (b - (a + 1)) (drop (a + 1) s)))
       (value 3 (take (e - (b + 1)) (drop (b + 1) s)))
   unfolding commands.command commands.ofPieces
-  command-two h = rw (second-piece 32 s a b first more second again, split-last 32 s (b + 1) e third h (omega arith))
+  command-two h = rw (three-pieces 32 s a b e first more second again third h)
 
   pub command-more : e < length s → commands.command s ≡ Command.Other
   unfolding commands.command
   command-more h =
-      rw (second-piece 32 s a b first more second again, split-found 32 s (b + 1) e third h)
+      rw (third-piece 32 s a b e first more second again third h)
       (command-longer (take a s) (take (b - (a + 1)) (drop (a + 1) s)) (take (e - (b + 1)) (drop (b + 1) s))
       (split 32 (drop (e + 1) s)) (split-some 32 (drop (e + 1) s)))

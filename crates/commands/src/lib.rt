@@ -1,8 +1,7 @@
 //! The lines of a simulation's input: the first line with its sizes, and the commands behind it.
 ghost use mathlib.Core.Path.{_≡_};
-ghost use Prim.Native.Nat.{_-_, _≤_, _<_};
-ghost use lib.ListN.{length, take, drop};
-ghost use Rattle.text.specs.Fields.{value};
+ghost use Prim.Native.Nat.{_≤_};
+ghost use lib.ListN.{length, take};
 ghost use Rattle.commands.specs.Commands.{letter, withOne, withTwo, command};
 ghost use Rattle.commands.specs.FirstLine.{sizes, firstLine};
 
@@ -18,14 +17,6 @@ pub enum Command {
 pub enum FirstLine {
     Sizes { n: usize, cap: usize },
     Other,
-}
-
-// The number of the field that stands from `at` to `end`.
-fn field(line: &[u8], at: usize, end: usize) -> text::Number
-    requires { ⌜ (at ≤ end) × (end ≤ length (now line)) ⌝ }
-    ensures { λ r. ⌜ r ≡ value 3 (take (end - at) (drop at (now (line .entry)))) ⌝ }
-{
-    text::value(&line[at..end], 3)
 }
 
 // The byte of a first piece of one byte that ends at `end`, and 0 where it has another length.
@@ -89,7 +80,7 @@ pub fn parse_command(line: &[u8]) -> Command
     let l = letter(line, a);
     let i = a + 1;
     let b = text::find(line, i, b' ');
-    let first = field(line, i, b);
+    let first = text::field(line, i, b, 3);
     if b == line.len() {
         return with_one(l, first);
     }
@@ -98,7 +89,7 @@ pub fn parse_command(line: &[u8]) -> Command
     if e < line.len() {
         return Command::Other;
     }
-    with_two(l, first, field(line, j, e))
+    with_two(l, first, text::field(line, j, e, 3))
 }
 
 // The sizes of two fields.
@@ -130,5 +121,5 @@ pub fn parse_first_line(line: &[u8]) -> FirstLine
     if b < line.len() {
         return FirstLine::Other;
     }
-    sizes(field(line, 0, a), field(line, i, b))
+    sizes(text::field(line, 0, a, 3), text::field(line, i, b, 3))
 }

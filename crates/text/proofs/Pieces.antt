@@ -2,6 +2,7 @@
 use Prim.Native.Nat.{_+_, _-_, _<_, _≤_, suc, ℕ}
 use mathlib.Core.List.{List, [], _∷_}
 use mathlib.Core.Path.{_∙_, _≡_, refl}
+use native.Mathlib.Nat.{sub-zero}
 use native.Mathlib.Omega.{arith}
 use native.Mathlib.Decide.{ℕ-discrete}
 use lib.Dec.{eqb}
@@ -99,3 +100,49 @@ unfolding split
 split-some c [] = omega arith
 split-some c (b ∷ s) =
     cond-elim (λ (ps : List (List ℕ)). 1 ≤ length ps) (eqb b c) ([] ∷ split c s) (grown b (split c s)) (λ t. omega arith) (λ t. grown-some b (split c s))
+
+-- what one search after another finds from the start on: the text is one piece, or its first piece goes up to place a
+module _ (c : ℕ) (s : List ℕ) (a : ℕ) (first : a ≡ 0 + before c (drop 0 s)) where
+  pub one-piece : a ≡ length s → split c s ≡ s ∷ []
+  one-piece h = split-none c s 0 a first h (omega arith)
+
+  pub first-piece : a < length s → split c s ≡ take a s ∷ split c (drop (a + 1) s)
+  first-piece h = split-found c s 0 a first h ∙ rw sub-zero
+
+-- it is two pieces, or the second one goes up to place b
+module _ (c : ℕ) (s : List ℕ) (a b : ℕ) (first : a ≡ 0 + before c (drop 0 s)) (more : a < length s) (second : b ≡ a + 1 + before c (drop (a + 1) s)) where
+  pub two-pieces : b ≡ length s → split c s ≡ take a s ∷ take (b - (a + 1)) (drop (a + 1) s) ∷ []
+  two-pieces h = first-piece c s a first more ∙ rw (split-last c s (a + 1) b second h (omega arith))
+
+  pub second-piece : b < length s → split c s ≡ take a s ∷ take (b - (a + 1)) (drop (a + 1) s) ∷ split c (drop (b + 1) s)
+  second-piece h = first-piece c s a first more ∙ rw (split-found c s (a + 1) b second h)
+
+-- it is three pieces, or the third one goes up to place e
+module _ (c : ℕ) (s : List ℕ) (a b e : ℕ) (first : a ≡ 0 + before c (drop 0 s)) (more : a < length s) (second : b ≡ a + 1 + before c (drop (a + 1) s))
+    (again : b < length s) (third : e ≡ b + 1 + before c (drop (b + 1) s)) where
+  pub three-pieces : e ≡ length s
+      → split c s ≡ take a s ∷ take (b - (a + 1)) (drop (a + 1) s) ∷ take (e - (b + 1)) (drop (b + 1) s) ∷ []
+  three-pieces h = second-piece c s a b first more second again ∙ rw (split-last c s (b + 1) e third h (omega arith))
+
+  pub third-piece : e < length s
+      → split c s ≡ take a s ∷ take (b - (a + 1)) (drop (a + 1) s) ∷ take (e - (b + 1)) (drop (b + 1) s) ∷ split c (drop (e + 1) s)
+  third-piece h = second-piece c s a b first more second again ∙ rw (split-found c s (b + 1) e third h)
+
+-- the bytes of the pieces, with one behind each
+unfoldable pub total : List (List ℕ) → ℕ
+total [] = 0
+total (p ∷ ps) = length p + 1 + total ps
+
+total-grown : (b : ℕ) (ps : List (List ℕ)) → 1 ≤ length ps → total (grown b ps) ≡ total ps + 1
+unfolding total grown
+total-grown b [] h = absurd (omega arith)
+total-grown b (p ∷ ps) h = omega arith
+
+-- the pieces have all the bytes of the text and of one parting byte more
+pub split-total : (c : ℕ) (s : List ℕ) → total (split c s) ≡ length s + 1
+unfolding total split
+split-total c [] = refl
+split-total c (b ∷ s) =
+    let more = split-total c s in
+    cond-elim (λ (ps : List (List ℕ)). total ps ≡ suc (length s) + 1) (eqb b c) ([] ∷ split c s) (grown b (split c s)) (λ t. omega arith)
+    (λ t. omega (arith, total-grown b (split c s) (split-some c s)))

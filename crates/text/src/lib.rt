@@ -1,7 +1,7 @@
 //! Text of ASCII bytes: pieces parted by a byte (lines, fields), decimal numbers read and written. Nothing here knows of nodes.
 ghost use mathlib.Core.Path.{_≡_};
 ghost use Prim.Native.Nat.{_+_, _-_, _*_, _≤_, _<_};
-ghost use lib.ListN.{length, drop};
+ghost use lib.ListN.{length, take, drop};
 ghost use Rattle.wire.specs.Bytes.{put};
 ghost use Rattle.text.specs.Before.{before};
 ghost use Rattle.text.specs.Fields.{isDigit, value};
@@ -75,6 +75,14 @@ pub fn value(s: &[u8], most: usize) -> Number
         i += 1;
     }
     Number::Is(v)
+}
+
+/// The number of the field of 1 to `most` digits that stands from `at` to `end`.
+pub fn field(s: &[u8], at: usize, end: usize, most: usize) -> Number
+    requires { ⌜ (at ≤ end) × (end ≤ length (now s)) × (most ≤ 19) ⌝ }
+    ensures { λ r. ⌜ r ≡ value most (take (end - at) (drop at (now (s .entry)))) ⌝ }
+{
+    value(&s[at..end], most)
 }
 
 /// Writes v in decimal from `at` on, and gives the place after it.

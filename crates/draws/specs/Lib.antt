@@ -1,0 +1,2 @@
+-- To believe, all: the step that a draw makes.
+pub mod Draws
