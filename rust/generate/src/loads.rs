@@ -1,6 +1,7 @@
 //! Inputs of the load: valid lines, and ones that are damaged.
 
 use crate::texts::damage_byte;
+use reference::boundary::CROWDED_LOADS;
 use reference::load::INPUT;
 use reference::random::Random;
 
@@ -10,7 +11,7 @@ const BYTES: &[u8] = b"0123456789 \n\r\t-+.,RTx\0\xFF";
 /// An input of any kind; about a third of them are no valid line.
 pub fn any_input(random: &mut Random) -> Vec<u8> {
     let mut input = valid(random);
-    match random.below(16) {
+    match random.below(20) {
         0 => input = out_of_range(random),
         1 => damage_field(random, &mut input),
         2 => damage_end(random, &mut input),
@@ -23,14 +24,23 @@ pub fn any_input(random: &mut Random) -> Vec<u8> {
     input
 }
 
-/// A valid line, with leading zeros at times.
+/// A valid line, with leading zeros at times; seldom one whose load comes to the end of its issues.
 pub fn valid(random: &mut Random) -> Vec<u8> {
-    let numbers = [random.within(2, 4) as u64, any_seed(random), any_draws(random)];
-    line(numbers.map(|number| padded(random, number)))
+    let numbers = match random.below(60) {
+        0 => [4, random.pick(&CROWDED_LOADS).into(), 400],
+        _ => any_numbers(random),
+    };
+    line(random, numbers)
 }
 
-/// The line of these fields.
-fn line(fields: [String; 3]) -> Vec<u8> {
+/// A valid line's n, seed and draws.
+fn any_numbers(random: &mut Random) -> [u64; 3] {
+    [random.within(2, 4) as u64, any_seed(random), any_draws(random)]
+}
+
+/// The line of these numbers, with leading zeros at times.
+fn line(random: &mut Random, numbers: [u64; 3]) -> Vec<u8> {
+    let fields = numbers.map(|number| padded(random, number));
     format!("{}\n", fields.join(" ")).into_bytes()
 }
 
@@ -68,7 +78,7 @@ fn padded(random: &mut Random, number: u64) -> String {
 /// A line of the right form with one number on the wrong side of a bound.
 fn out_of_range(random: &mut Random) -> Vec<u8> {
     let far = random.pick(&[1 << 32, (1 << 32) + 1, (1 << 32) + 2, (1 << 32) + 4, 9_999_999_999]);
-    let mut numbers = [random.within(2, 4) as u64, any_seed(random), any_draws(random)];
+    let mut numbers = any_numbers(random);
     let bounds = [
         random.pick(&[0, 1, 5, 6, 12, 256, 258, 65_539, far]),
         random.pick(&[0, far]),
@@ -76,7 +86,7 @@ fn out_of_range(random: &mut Random) -> Vec<u8> {
     ];
     let index = random.below(numbers.len());
     numbers[index] = bounds[index];
-    line(numbers.map(|number| padded(random, number)))
+    line(random, numbers)
 }
 
 /// Puts another field in the place of one: too many digits, none, or no number.

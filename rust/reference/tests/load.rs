@@ -1,5 +1,6 @@
 //! The load's numbers, its input's edges, and runs held against hand-made steps and against the yard.
 
+use reference::boundary::CROWDED_LOADS;
 use reference::xorshift::Xorshift;
 use reference::{load, yard};
 
@@ -188,4 +189,23 @@ fn the_yard_counts_the_same_for_the_same_steps() {
     }
     assert_eq!(rows, 4 * 3 * (3 + 7 + 13));
     assert!(extras > 20, "{extras} extras");
+}
+
+/// How many of a load's 400 draws send or deliver.
+fn sends_and_delivers(seed: u32) -> usize {
+    Xorshift::new(seed).take(400).filter(|draw| matches!(draw % 4, 0 | 3)).count()
+}
+
+#[test]
+fn the_end_of_the_issues() {
+    // With 176 issues four are left, and one step more goes; with 177 sends and delivers are idle.
+    for (seed, end) in CROWDED_LOADS.into_iter().zip([(177, 21), (177, 19), (178, 13), (178, 12)]) {
+        let output = printed(format!("4 {seed} 400\n"));
+        let row: Vec<usize> = output.lines().next().unwrap().split(' ').map(|number| number.parse().unwrap()).collect();
+        let [cap, users, extras, delivered, delays, share] = row[..] else {
+            panic!("{output}");
+        };
+        let idle = sends_and_delivers(seed) - users - delivered - delays;
+        assert_eq!((cap, users + extras, idle, share), (4, end.0, end.1, 100 * extras / users), "{seed}: {output}");
+    }
 }
