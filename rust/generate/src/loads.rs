@@ -121,7 +121,7 @@ fn damage_end(random: &mut Random, input: &mut Vec<u8>) {
     input.extend(random.pick(&ends));
 }
 
-/// Adds a blank somewhere, or puts one in the place of a space.
+/// Adds a blank at the front or before a space, or puts one in the place of a space.
 fn damage_space(random: &mut Random, input: &mut Vec<u8>) {
     let places: Vec<usize> = (0..input.len()).filter(|index| input[*index] == b' ').chain([0]).collect();
     let place = random.pick(&places);
