@@ -3,16 +3,19 @@
 //! Both sides go from a record's image in bytes to the next one: the proved node over the lent image, the reference by
 //! reading it, its call by value, and writing it back. The last column is the reference's call alone, on a record that
 //! is read already. A round runs each side on COPIES copies of the state, which are restored between rounds and not
-//! timed; outputs are not cleared between calls. An argument is a part of the names of the rows to run.
+//! timed; outputs are not cleared between calls. A table of its own has the whole load, which has no image. An argument
+//! is a part of the names of the rows to run.
 
+mod loads;
+mod measure;
 mod states;
 
 use linked::lent::{self, Image};
+use measure::{is_wanted, median, nanoseconds};
 use reference::node::OUTPUT;
 use reference::{deliver, offer, send, set_up, Record};
 use states::{frame, state, Size, State};
 use std::hint::black_box;
-use std::time::Instant;
 
 /// Copies of a state, so that a round's time is long against the clock's.
 const COPIES: usize = 16;
@@ -52,17 +55,12 @@ type Side<'a> = Box<dyn Fn(&mut Bench) -> u8 + 'a>;
 /// One round: nanoseconds a call.
 fn round(copies: &mut [Bench], state: &State, side: &Side) -> f64 {
     copies.iter_mut().for_each(|copy| copy.restore(state));
-    let start = Instant::now();
-    for copy in copies.iter_mut() {
-        black_box(side(black_box(copy)));
-    }
-    start.elapsed().as_nanos() as f64 / COPIES as f64
-}
-
-/// The middle of the values.
-fn median(mut values: Vec<f64>) -> f64 {
-    values.sort_by(f64::total_cmp);
-    values[values.len() / 2]
+    let time = nanoseconds(|| {
+        for copy in copies.iter_mut() {
+            black_box(side(black_box(copy)));
+        }
+    });
+    time / COPIES as f64
 }
 
 /// The sides answer alike, and the first two leave the same bytes.
@@ -77,7 +75,7 @@ fn check(name: &str, state: &State, sides: &[Side; 3]) {
 
 /// One row: the proved node, the reference from image to image, and the reference by value, in turn.
 fn row(name: &str, state: &State, sides: [Side; 3]) {
-    if std::env::args().nth(1).is_some_and(|part| !name.contains(&part)) {
+    if !is_wanted(name) {
         return;
     }
     check(name, state, &sides);
@@ -201,4 +199,5 @@ fn main() {
         }
         deliver_row(&format!("deliver, n {n}, cap {n}, 1 held, extras issued"), &states::trims(n));
     }
+    loads::table();
 }

@@ -1,8 +1,8 @@
 //! A difference, printed so that the case can be repeated.
 
-use generate::{Buffers, Call, Case};
+use generate::{Buffers, Call, Case, Outcome};
 use reference::Record;
-use std::fmt::{Display, Formatter, Result};
+use std::fmt::{self, Display, Formatter};
 
 /// A case on which the two implementations differ, and in what.
 #[derive(Clone, Debug)]
@@ -12,8 +12,18 @@ pub struct Difference {
     pub parts: Vec<String>,
 }
 
+impl Difference {
+    /// The outcome of the case where nothing differs.
+    pub fn unless_none(case: &Case, outcome: Outcome, parts: Vec<String>) -> Result<Outcome, Box<Difference>> {
+        if parts.is_empty() {
+            return Ok(outcome);
+        }
+        Err(Box::new(Difference { case: case.clone(), parts }))
+    }
+}
+
 impl Display for Difference {
-    fn fmt(&self, f: &mut Formatter<'_>) -> Result {
+    fn fmt(&self, f: &mut Formatter<'_>) -> fmt::Result {
         writeln!(f, "DIFFERENCE in {}", self.case.call.name())?;
         self.parts.iter().try_for_each(|part| writeln!(f, "  {part}"))?;
         writeln!(f, "the case:")?;
@@ -24,7 +34,7 @@ impl Display for Difference {
 }
 
 /// The record, its non-zero counts alone.
-fn write_record(f: &mut Formatter<'_>, record: &Record) -> Result {
+fn write_record(f: &mut Formatter<'_>, record: &Record) -> fmt::Result {
     let counts = |counts: &[u32]| -> Vec<(usize, u32)> {
         counts.iter().copied().enumerate().filter(|(_, count)| *count != 0).collect()
     };
@@ -34,18 +44,20 @@ fn write_record(f: &mut Formatter<'_>, record: &Record) -> Result {
 }
 
 /// The call with its numbers and the bytes that it reads.
-fn write_call(f: &mut Formatter<'_>, call: &Call) -> Result {
+fn write_call(f: &mut Formatter<'_>, call: &Call) -> fmt::Result {
     match call {
         Call::SetUp { me, n, cap } => writeln!(f, "  set-up: me {me} n {n} cap {cap}"),
         Call::Send { to, body } => writeln!(f, "  send: to {to}, body of {}: {}", body.len(), hex(body)),
         Call::Offer { frame } => writeln!(f, "  offer: frame of {}: {}", frame.len(), hex(frame)),
         Call::Deliver => writeln!(f, "  deliver"),
-        Call::Yard { input } => writeln!(f, "  yard: {:?}", String::from_utf8_lossy(input)),
+        Call::Yard { input } | Call::Load { input } => {
+            writeln!(f, "  {}: {:?}", call.name(), String::from_utf8_lossy(input))
+        }
     }
 }
 
 /// The lent buffers as they were before the call.
-fn write_buffers(f: &mut Formatter<'_>, buffers: &Buffers) -> Result {
+fn write_buffers(f: &mut Formatter<'_>, buffers: &Buffers) -> fmt::Result {
     let Buffers { shelf, out, body_out } = buffers;
     for (name, bytes) in [("shelf", shelf), ("frame output", out), ("body output", body_out)] {
         writeln!(f, "  {name} of {}: {}", bytes.len(), hex(bytes))?;

@@ -1,4 +1,5 @@
-//! The proved node beside the second implementation, call by call: answer, record and every byte of every buffer.
+//! The proved node beside the second implementation, call by call: answer, record and every byte of every buffer; and
+//! the programs beside it, input by input.
 #![forbid(unsafe_code)]
 
 pub mod arguments;
@@ -7,8 +8,10 @@ pub mod difference;
 pub mod hostile;
 pub mod lists;
 pub mod pair;
+pub mod printed;
 pub mod program;
 pub mod run;
+pub mod stored;
 
 pub use difference::Difference;
 pub use pair::{compare, Lent};

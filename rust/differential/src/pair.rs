@@ -15,7 +15,7 @@ pub struct Lent {
     pub kept: bool,
 }
 
-/// Runs a call of the proved node over an image and the buffers; the yard is no call of it.
+/// Runs a call of the proved node over an image and the buffers; the yard and the load are no calls of it.
 pub fn run_lent(mut image: Image, call: &Call, buffers: &mut Buffers) -> Lent {
     let Buffers { shelf, out, body_out } = buffers;
     let (answer, kept) = match call {
@@ -42,7 +42,7 @@ pub fn run_lent(mut image: Image, call: &Call, buffers: &mut Buffers) -> Lent {
             let none = status != 0 || values[0] != 0 || values == [0, 0, 0, values[3], 0, 0, 0];
             (Answer::Deliver(linked::deliver_answer(status, values)), kept(status, &values) && none)
         }
-        Call::Yard { .. } => panic!("the yard is no call of the node"),
+        Call::Yard { .. } | Call::Load { .. } => panic!("{} is no call of the node", call.name()),
     };
     Lent { answer, image, kept }
 }
@@ -74,10 +74,7 @@ pub fn judge(case: &Case, found: &Lent, buffers: &Buffers) -> Result<Outcome, Bo
     if !found.kept {
         parts.push("lent numbers: a refusal changed them, or one is not 0 where there is none".to_string());
     }
-    if parts.is_empty() {
-        return Ok(expected);
-    }
-    Err(Box::new(Difference { case: case.clone(), parts }))
+    Difference::unless_none(case, expected, parts)
 }
 
 /// Notes where two runs of bytes differ.

@@ -1,17 +1,20 @@
 //! Runs of generated cases from a seed.
 
 use crate::crafted::Crafted;
-use crate::{compare, program, Difference};
+use crate::printed::{compare_load, compare_yard};
+use crate::program::Programs;
+use crate::{compare, Difference};
 use generate::counts::Counts;
-use generate::{Answer, Call, Case, Generator, Outcome};
-use std::path::Path;
+use generate::{Call, Case, Generator};
 
-/// How many calls and yard inputs were compared and what they answered; yards without a program are left out.
+/// How many calls and inputs of the programs were compared and what they answered; inputs of a program that is not
+/// named are left out.
 #[derive(Clone, Debug, Default)]
 pub struct Tally {
     pub calls: usize,
     pub yards: usize,
-    pub yards_left_out: usize,
+    pub loads: usize,
+    pub left_out: usize,
     pub counts: Counts,
 }
 
@@ -41,13 +44,14 @@ impl Cases {
 
 impl Tally {
     /// Compares one case.
-    pub fn add(&mut self, case: &Case, yard: Option<&Path>) -> Result<(), Box<Difference>> {
-        let (outcome, count) = match (&case.call, yard) {
-            (Call::Yard { .. }, None) => {
-                self.yards_left_out += 1;
+    pub fn add(&mut self, case: &Case, programs: &Programs) -> Result<(), Box<Difference>> {
+        let (outcome, count) = match (&case.call, &programs.yard, &programs.load) {
+            (Call::Yard { .. }, None, _) | (Call::Load { .. }, _, None) => {
+                self.left_out += 1;
                 return Ok(());
             }
-            (Call::Yard { input }, Some(program)) => (compare_yard(case, program, input)?, &mut self.yards),
+            (Call::Yard { input }, Some(program), _) => (compare_yard(case, program, input)?, &mut self.yards),
+            (Call::Load { input }, _, Some(program)) => (compare_load(case, program, input)?, &mut self.loads),
             _ => (compare(case)?, &mut self.calls),
         };
         *count += 1;
@@ -56,13 +60,17 @@ impl Tally {
     }
 }
 
-/// Runs the compiled yard beside the reference.
-fn compare_yard(case: &Case, program: &Path, input: &[u8]) -> Result<Outcome, Box<Difference>> {
-    let expected = case.run();
-    let printed = program::yard_output(program, input).unwrap_or_else(|error| format!("{error}").into_bytes());
-    if expected.answer == Answer::Yard(printed.clone()) {
-        return Ok(expected);
+/// Compares so many inputs of a program from each seed, none of which may differ.
+pub fn compare_inputs(seeds: &[u64], inputs: usize, next: fn(&mut Generator) -> Case, programs: &Programs) -> Tally {
+    let mut tally = Tally::default();
+    for seed in seeds {
+        let mut generator = Generator::new(*seed);
+        for index in 1..=inputs {
+            let case = next(&mut generator);
+            if let Err(difference) = tally.add(&case, programs) {
+                panic!("{difference}\n{} input {index} of seed {seed}", case.call.name());
+            }
+        }
     }
-    let parts = vec![format!("reference {:?}, program {:?}", expected.answer, String::from_utf8_lossy(&printed))];
-    Err(Box::new(Difference { case: case.clone(), parts }))
+    tally
 }

@@ -1,6 +1,6 @@
 //! A case: a record, a call and the buffers lent to it, and what comes of it.
 
-use reference::{deliver, offer, send, set_up, yard, DeliverAnswer, OfferAnswer, Record, Refusal, SendAnswer};
+use reference::{deliver, load, offer, send, set_up, yard, DeliverAnswer, OfferAnswer, Record, Refusal, SendAnswer};
 
 /// A call with its numbers and the bytes that it only reads.
 #[derive(Clone, Debug, PartialEq, Eq)]
@@ -10,6 +10,7 @@ pub enum Call {
     Offer { frame: Vec<u8> },
     Deliver,
     Yard { input: Vec<u8> },
+    Load { input: Vec<u8> },
 }
 
 /// The buffers that a call may write, each empty where the call is not lent it.
@@ -23,7 +24,7 @@ pub struct Buffers {
     pub body_out: Vec<u8>,
 }
 
-/// One call with all that goes into it; set-up and the yard do not look at the record.
+/// One call with all that goes into it; set-up, the yard and the load do not look at the record.
 #[derive(Clone, Debug, PartialEq, Eq)]
 pub struct Case {
     pub record: Record,
@@ -31,7 +32,7 @@ pub struct Case {
     pub buffers: Buffers,
 }
 
-/// What a call answers; a yard's answer is what it prints.
+/// What a call answers; that of a yard or a load is what it prints.
 #[derive(Clone, Debug, PartialEq, Eq)]
 pub enum Answer {
     SetUp(Result<(), Refusal>),
@@ -39,6 +40,7 @@ pub enum Answer {
     Offer(OfferAnswer),
     Deliver(DeliverAnswer),
     Yard(Vec<u8>),
+    Load(Vec<u8>),
 }
 
 /// The answer, the record that comes back, and every lent buffer afterwards.
@@ -58,6 +60,7 @@ impl Call {
             Call::Offer { .. } => "offer",
             Call::Deliver => "deliver",
             Call::Yard { .. } => "yard",
+            Call::Load { .. } => "load",
         }
     }
 }
@@ -71,6 +74,14 @@ impl Answer {
             | Answer::Offer(OfferAnswer::Refused(number))
             | Answer::Deliver(DeliverAnswer::Refused(number)) => *number,
             _ => 0,
+        }
+    }
+
+    /// What a yard or a load printed; nothing of another call.
+    pub fn printed(&self) -> Option<&[u8]> {
+        match self {
+            Answer::Yard(printed) | Answer::Load(printed) => Some(printed),
+            _ => None,
         }
     }
 }
@@ -93,6 +104,7 @@ impl Case {
             Call::Offer { frame } => wrap(Answer::Offer, offer(record, frame, shelf)),
             Call::Deliver => wrap(Answer::Deliver, deliver(record, shelf, out, body_out)),
             Call::Yard { input } => (Answer::Yard(yard(input)), record),
+            Call::Load { input } => (Answer::Load(load(input)), record),
         }
     }
 }

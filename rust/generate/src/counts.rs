@@ -12,7 +12,7 @@ pub struct Counts {
 }
 
 impl Counts {
-    /// Counts a case's outcome; a yard is counted by the refusals that it prints.
+    /// Counts a case's outcome; a yard is counted by the lines that it prints, a load by its table or its refusal.
     pub fn add(&mut self, case: &Case, outcome: &Outcome) {
         for label in labels(&outcome.answer) {
             *self.counts.entry((case.call.name(), label)).or_default() += 1;
@@ -53,7 +53,9 @@ fn bytes_of(case: &Case, answer: &Answer) -> usize {
 /// What an answer is counted as.
 fn labels(answer: &Answer) -> Vec<String> {
     match answer {
-        Answer::Yard(printed) => yard_labels(printed),
+        Answer::Yard(printed) => printed_labels(printed),
+        Answer::Load(printed) if !printed.starts_with(b"R") => vec!["table".to_string()],
+        Answer::Load(printed) => printed_labels(printed),
         answer if answer.number() > 0 => vec![format!("{:>2}", answer.number())],
         answer => vec![taken_label(answer)],
     }
@@ -74,8 +76,8 @@ fn taken_label(answer: &Answer) -> String {
     }
 }
 
-/// The first fields of the refusals, and the letters of the other lines, that a yard prints.
-fn yard_labels(printed: &[u8]) -> Vec<String> {
+/// The first fields of the refusals, and the letters of the other lines, that are printed.
+fn printed_labels(printed: &[u8]) -> Vec<String> {
     let text = String::from_utf8_lossy(printed);
     let label = |line: &str| match line.split_once(' ') {
         Some(("R", number)) => format!("{number:>2}"),

@@ -3,7 +3,7 @@
 use crate::case::{Buffers, Call, Case};
 use crate::records::{any_cap, any_n};
 use crate::states::{any_state, parted_state, reach_limit, Runner, State};
-use crate::{frames, records, shelves, yards};
+use crate::{frames, loads, records, shelves, yards};
 use reference::node::OUTPUT;
 use reference::random::Random;
 use reference::{shelf, Record};
@@ -29,8 +29,9 @@ impl Generator {
             0..=3 => self.set_up(),
             4..=27 => self.send(),
             28..=74 => self.offer(),
-            75..=97 => self.deliver(),
-            _ => self.yard(),
+            75..=95 => self.deliver(),
+            96 | 97 => self.yard(),
+            _ => self.load(),
         }
     }
 
@@ -64,7 +65,7 @@ impl Generator {
             numbers[index] = bounds[index];
         }
         let [me, n, cap] = numbers;
-        Case { record: Record::ZERO, call: Call::SetUp { me, n, cap }, buffers: Buffers::default() }
+        alone(Call::SetUp { me, n, cap })
     }
 
     /// A send with any of its checks met at times.
@@ -102,8 +103,19 @@ impl Generator {
     /// A yard with any input.
     pub fn yard(&mut self) -> Case {
         let input = yards::any_input(&mut self.random);
-        Case { record: Record::ZERO, call: Call::Yard { input }, buffers: Buffers::default() }
+        alone(Call::Yard { input })
     }
+
+    /// A load with any input.
+    pub fn load(&mut self) -> Case {
+        let input = loads::any_input(&mut self.random);
+        alone(Call::Load { input })
+    }
+}
+
+/// The case of a call that looks at no record and is lent no buffers.
+fn alone(call: Call) -> Case {
+    Case { record: Record::ZERO, call, buffers: Buffers::default() }
 }
 
 /// Damages the record once in so many times.

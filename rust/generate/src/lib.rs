@@ -5,9 +5,11 @@ pub mod case;
 pub mod counts;
 pub mod frames;
 pub mod generator;
+pub mod loads;
 pub mod records;
 pub mod shelves;
 pub mod states;
+pub mod texts;
 pub mod yards;
 
 pub use case::{Answer, Buffers, Call, Case, Outcome};

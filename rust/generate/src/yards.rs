@@ -1,15 +1,19 @@
 //! Inputs of the yard: valid ones, and ones that are damaged.
 
 use crate::records::any_cap;
+use crate::texts::damage_byte;
 use reference::list::List;
 use reference::random::Random;
 use reference::yard::{INPUT, ISSUES};
+
+/// Bytes that damage an input: those of its lines, other blanks and signs, and bytes that are no text.
+const BYTES: &[u8] = b"0123456789SADNRTX \n\r\t-+.\0\xFF";
 
 /// An input of any kind.
 pub fn any_input(random: &mut Random) -> Vec<u8> {
     let mut input = valid(random);
     match random.below(10) {
-        0 => damage_byte(random, &mut input),
+        0 => damage_byte(random, &mut input, BYTES),
         1 => damage_line(random, &mut input),
         2 => damage_first(random, &mut input),
         3 => input.truncate(random.below(input.len() + 1)),
@@ -140,19 +144,6 @@ fn padded(random: &mut Random, number: usize) -> String {
         0 => format!("{number:02}"),
         1 => format!("{number:03}"),
         _ => format!("{number}"),
-    }
-}
-
-/// Changes, drops or adds a byte.
-fn damage_byte(random: &mut Random, input: &mut Vec<u8>) {
-    let index = random.below(input.len());
-    let byte = random.pick(b"0123456789SADNRTX \n\r\t-+.\0\xFF");
-    match random.below(3) {
-        0 => input[index] = byte,
-        1 => input.insert(index, byte),
-        _ => {
-            input.remove(index);
-        }
     }
 }
 

@@ -1,31 +1,32 @@
 //! What holds of the generated cases, and how often each refusal is met.
 
 use generate::counts::Counts;
-use generate::{frames, records, shelves, states, Answer, Call, Case, Generator, Outcome};
+use generate::{frames, loads, records, shelves, states, Call, Case, Generator, Outcome};
 use reference::frame::Frame;
 use reference::random::Random;
 use reference::{shelf, Record};
 
 /// The checks of each call.
-const CHECKS: [(&str, &[u8]); 5] = [
+const CHECKS: [(&str, &[u8]); 6] = [
     ("set-up", &[1]),
     ("send", &[2, 3, 5, 6, 7]),
     ("offer", &[2, 3, 4, 8, 9, 10, 11, 12, 13, 14, 15, 16]),
     ("deliver", &[2, 3, 4, 5]),
     ("yard", &[6, 14, 15, 16, 17]),
+    ("load", &[18]),
 ];
 
 /// A refusal leaves record and buffers, and another answer gives a sound record and shelf.
 fn check_outcome(case: &Case, outcome: &Outcome) {
     let refused = outcome.answer.number() > 0;
     match &case.call {
-        Call::Yard { .. } => (),
+        Call::Yard { .. } | Call::Load { .. } => (),
         Call::SetUp { .. } if refused => assert_eq!(outcome.record, Record::ZERO),
         _ if refused => assert_eq!((outcome.record, &outcome.buffers), (case.record, &case.buffers)),
         Call::Offer { .. } | Call::Deliver => assert_eq!(shelf::check(&outcome.buffers.shelf, &outcome.record), Ok(())),
         _ => (),
     }
-    assert!(refused || matches!(outcome.answer, Answer::Yard(_)) || outcome.record.keeps_rules());
+    assert!(refused || outcome.answer.printed().is_some() || outcome.record.keeps_rules());
 }
 
 #[test]
@@ -125,4 +126,14 @@ fn frames_are_sound_or_meet_their_check() {
     }
     assert!(met[8..].iter().all(|count| *count > 1_000), "{met:?}");
     println!("{met:?}");
+}
+
+#[test]
+fn load_lines_are_valid_or_damaged() {
+    let mut random = Random::new(15);
+    for _ in 0..500 {
+        assert_ne!(reference::load(&loads::valid(&mut random)), b"R 18\n");
+    }
+    let damaged = (0..3_000).filter(|_| reference::load(&loads::any_input(&mut random)) == b"R 18\n").count();
+    assert!((850..1_150).contains(&damaged), "{damaged} of 3,000 are damaged");
 }

@@ -1,9 +1,12 @@
-//! The proved node's exported calls behind safe functions.
+//! The exported calls of the proved node and the proved load behind safe functions.
 //!
 //! `lent` has the calls as they are exported, over an image of the record and lent numbers. The functions here have
-//! the by-value interface of `reference`, with its record and answers.
+//! the by-value interface of `reference`, with its record and answers. `load` is the load over lent bytes.
 
 pub mod lent;
+pub mod load;
+
+pub use load::load;
 
 use lent::{DELIVER_VALUES, OFFER_VALUES, SEND_VALUES};
 use reference::node::Delivery;

@@ -2,7 +2,8 @@
 
 use crate::story::{Frame, Held, Mark, Sign};
 use crate::texts::name;
-use reference::yard::{Run, Tally};
+use reference::plant::Tally;
+use reference::yard::Run;
 
 /// The run in one line.
 pub fn summary(run: &Run) -> String {

@@ -1,10 +1,15 @@
 //! Lists that reach the largest frame, send and delivery, and a full shelf. They run on anything that takes a list's
-//! steps, so that one implementation can be tested by them and two can be compared.
+//! steps, so that one implementation can be tested by them and two can be compared. And loads that come to the end of
+//! their issues.
 
 use crate::list::List;
 use crate::node::Delivery;
 use crate::{DeliverAnswer, OfferAnswer, SendAnswer};
 use std::ops::RangeInclusive;
+
+/// Seeds of loads with 4 nodes and 400 draws that come to the end of their 180 issues under cap 4, which very few do: 177
+/// are issued in the end from the first two, 178 from the others.
+pub const CROWDED_LOADS: [u32; 4] = [4137459756, 678678812, 3541979015, 12640737];
 
 /// What takes a list's steps.
 pub trait Steps {

@@ -1,5 +1,5 @@
-//! The causal node in plain Rust: a second implementation, written from document 01 and the
-//! readings of its open points, not from the proved code or its definitions.
+//! The causal node in plain Rust: a second implementation, written from documents 01 and 02 and the
+//! readings of their open points, not from the proved code or its definitions.
 //!
 //! It is compared with the proved implementation by differential tests, and is the yardstick of its benchmark.
 #![forbid(unsafe_code)]
@@ -10,12 +10,18 @@ pub mod event;
 pub mod frame;
 pub mod history;
 pub mod list;
+pub mod load;
 pub mod node;
+pub mod plant;
+pub mod program;
 pub mod random;
 pub mod record;
 pub mod shelf;
+pub mod text;
+pub mod xorshift;
 pub mod yard;
 
+pub use load::load;
 pub use node::{deliver, offer, send, set_up, DeliverAnswer, OfferAnswer, SendAnswer};
 pub use record::Record;
 pub use yard::yard;

@@ -1,8 +1,10 @@
 //! The yard: a program that runs a list of steps from lines of text.
 
 use crate::event::Event;
-use crate::frame::EXTRA;
+use crate::frame::{refuse, EXTRA};
 use crate::list::List;
+use crate::plant::{Plant, Tally, NODES};
+use crate::text::{fields, read_number};
 use crate::{DeliverAnswer, OfferAnswer, Refusal, SendAnswer};
 use std::fmt::{self, Display, Formatter};
 
@@ -10,34 +12,8 @@ use std::fmt::{self, Display, Formatter};
 pub const INPUT: usize = 4096;
 /// Frames that may be issued.
 pub const ISSUES: usize = 64;
-/// Nodes that a yard may have.
-const NODES: std::ops::RangeInclusive<usize> = 2..=4;
-
-/// User frames, extras, frames delivered, delays (N lines), extras per hundred user frames.
-#[derive(Clone, Copy, Debug, Default, PartialEq, Eq)]
-pub struct Tally {
-    pub users: usize,
-    pub extras: usize,
-    pub delivered: usize,
-    pub delays: usize,
-    pub share: usize,
-}
-
-impl Tally {
-    /// Counts issued frames; the share is rounded down, and 0 without user frames.
-    fn count_issued(&mut self, users: usize, extras: usize) {
-        self.users += users;
-        self.extras += extras;
-        self.share = (self.extras * 100).checked_div(self.users).unwrap_or(0);
-    }
-}
-
-impl Display for Tally {
-    fn fmt(&self, f: &mut Formatter<'_>) -> fmt::Result {
-        let Tally { users, extras, delivered, delays, share } = self;
-        write!(f, "T {users} {extras} {delivered} {delays} {share}")
-    }
-}
+/// A field has at most this many digits.
+const DIGITS: usize = 3;
 
 /// A line of the yard after the first.
 #[derive(Clone, Copy, Debug, PartialEq, Eq)]
@@ -75,7 +51,7 @@ impl Display for Run<'_> {
         for event in events {
             writeln!(f, "{event}")?;
         }
-        writeln!(f, "{}", self.tally)
+        writeln!(f, "T {}", self.tally)
     }
 }
 
@@ -87,10 +63,9 @@ pub fn yard(input: &[u8]) -> Vec<u8> {
 /// Runs an input; nothing for one that prints `R 17` alone.
 pub fn run(input: &[u8]) -> Option<Run<'_>> {
     let (n, cap, rest) = start(input)?;
-    let mut list = List::start(n, cap).ok()?;
-    let mut tally = Tally::default();
-    let lines = rest.split_inclusive(|byte| *byte == b'\n').map(|line| run_line(&mut list, line, &mut tally)).collect();
-    Some(Run { n, cap, lines, tally })
+    let mut plant = Plant::start(n, cap, ISSUES).ok()?;
+    let lines = rest.split_inclusive(|byte| *byte == b'\n').map(|line| run_line(&mut plant, line)).collect();
+    Some(Run { n, cap, lines, tally: plant.tally })
 }
 
 /// The n and cap of the first line, and the input after that line.
@@ -104,70 +79,60 @@ fn start(input: &[u8]) -> Option<(usize, usize, &[u8])> {
 }
 
 /// Runs one line; 17 is given for another line, such as bytes after the last line feed.
-fn run_line<'a>(list: &mut List, line: &'a [u8], tally: &mut Tally) -> Line<'a> {
+fn run_line<'a>(plant: &mut Plant, line: &'a [u8]) -> Line<'a> {
     let ended = line.strip_suffix(b"\n");
     let step = ended.and_then(read_step);
-    let events = step.ok_or(17).and_then(|step| run_step(list, step, tally));
+    let events = step.ok_or(17).and_then(|step| run_step(plant, step));
     let events = events.unwrap_or_else(|number| vec![Event::Refused(number)]);
     Line { text: ended.unwrap_or(line), step, events }
 }
 
 /// Runs one step.
-fn run_step(list: &mut List, step: Step, tally: &mut Tally) -> Result<Vec<Event>, Refusal> {
+fn run_step(plant: &mut Plant, step: Step) -> Result<Vec<Event>, Refusal> {
     match step {
-        Step::Send(i, j) => send(list, i, j, tally),
-        Step::Offer(m) => offer(list, m),
-        Step::Deliver(j) => deliver(list, j, tally),
+        Step::Send(i, j) => send(plant, i, j),
+        Step::Offer(m) => offer(plant, m),
+        Step::Deliver(j) => deliver(plant, j),
     }
 }
 
-/// The user frame, then each extra.
-fn send(list: &mut List, i: usize, j: usize, tally: &mut Tally) -> Result<Vec<Event>, Refusal> {
-    may_issue(list, i)?;
-    let before = list.issued.len();
-    match list.send(i, j, &[]) {
+/// The user frame, then each extra; 17 with fewer than n of 64 issues left.
+fn send(plant: &mut Plant, i: usize, j: usize) -> Result<Vec<Event>, Refusal> {
+    check_node(plant, i)?;
+    let before = plant.list.issued.len();
+    match plant.send(i, j).ok_or(17)? {
         SendAnswer::Refused(number) => Err(number),
-        SendAnswer::Sent { extras, .. } => {
-            tally.count_issued(1, extras);
-            Ok(issued_since(list, before).collect())
-        }
+        SendAnswer::Sent { .. } => Ok(issued_since(&plant.list, before).collect()),
     }
 }
 
-/// The issue and the frames now held there.
-fn offer(list: &mut List, m: usize) -> Result<Vec<Event>, Refusal> {
-    let issue = m.checked_sub(1).filter(|issue| *issue < list.issued.len()).ok_or(17)?;
-    match list.offer(list.frame(issue).to(), issue) {
+/// The issue and the frames now held there; 17 for an issue not made.
+fn offer(plant: &mut Plant, m: usize) -> Result<Vec<Event>, Refusal> {
+    let issue = m.checked_sub(1).filter(|issue| *issue < plant.list.issued.len()).ok_or(17)?;
+    match plant.offer(issue) {
         OfferAnswer::Refused(number) => Err(number),
         OfferAnswer::Held { held, .. } => Ok(vec![Event::Held { issue: m, held }]),
     }
 }
 
-/// The delivery with any extras after it, or none.
-fn deliver(list: &mut List, node: usize, tally: &mut Tally) -> Result<Vec<Event>, Refusal> {
-    may_issue(list, node)?;
-    let before = list.issued.len();
-    match list.deliver(node).0 {
+/// The delivery with any extras after it, or none; 17 with fewer than n of 64 issues left.
+fn deliver(plant: &mut Plant, node: usize) -> Result<Vec<Event>, Refusal> {
+    check_node(plant, node)?;
+    let before = plant.list.issued.len();
+    match plant.deliver(node).ok_or(17)? {
         DeliverAnswer::Refused(number) => Err(number),
-        DeliverAnswer::None { looked } => {
-            tally.delays += 1;
-            Ok(vec![Event::None { node, looked }])
-        }
+        DeliverAnswer::None { looked } => Ok(vec![Event::None { node, looked }]),
         DeliverAnswer::Delivered(delivery) => {
-            tally.delivered += 1;
-            tally.count_issued(0, delivery.extras);
-            let issue = list.find(delivery.from, node, delivery.number).ok_or(17)? + 1;
+            let issue = plant.list.find(delivery.from, node, delivery.number).ok_or(17)? + 1;
             let delivered = Event::Delivered { node, issue, looked: delivery.looked };
-            Ok(std::iter::once(delivered).chain(issued_since(list, before)).collect())
+            Ok(std::iter::once(delivered).chain(issued_since(&plant.list, before)).collect())
         }
     }
 }
 
-/// 17 for a node not below n, and for S or D with fewer than n of 64 issues left.
-fn may_issue(list: &List, node: usize) -> Result<(), Refusal> {
-    let known = node < list.n();
-    let room = list.issued.len() + list.n() <= ISSUES;
-    (known && room).then_some(()).ok_or(17)
+/// 17 for a node not below n.
+fn check_node(plant: &Plant, node: usize) -> Result<(), Refusal> {
+    refuse(node >= plant.list.n(), 17)
 }
 
 /// The frames issued from here on.
@@ -187,7 +152,7 @@ fn issued_since(list: &List, before: usize) -> impl Iterator<Item = Event> + '_ 
 /// First line: n and cap.
 fn read_first(line: &[u8]) -> Option<(usize, usize)> {
     match fields(line)[..] {
-        [n, cap] => Some((read_number(n)?, read_number(cap)?)),
+        [n, cap] => Some((read_number(n, DIGITS)?, read_number(cap, DIGITS)?)),
         _ => None,
     }
 }
@@ -195,20 +160,9 @@ fn read_first(line: &[u8]) -> Option<(usize, usize)> {
 /// Then `S i j`, `A m`, `D j`.
 fn read_step(line: &[u8]) -> Option<Step> {
     match fields(line)[..] {
-        [b"S", i, j] => Some(Step::Send(read_number(i)?, read_number(j)?)),
-        [b"A", m] => Some(Step::Offer(read_number(m)?)),
-        [b"D", j] => Some(Step::Deliver(read_number(j)?)),
+        [b"S", i, j] => Some(Step::Send(read_number(i, DIGITS)?, read_number(j, DIGITS)?)),
+        [b"A", m] => Some(Step::Offer(read_number(m, DIGITS)?)),
+        [b"D", j] => Some(Step::Deliver(read_number(j, DIGITS)?)),
         _ => None,
     }
-}
-
-/// What stands between single spaces.
-fn fields(line: &[u8]) -> Vec<&[u8]> {
-    line.split(|byte| *byte == b' ').collect()
-}
-
-/// A field of 1 to 3 digits.
-fn read_number(field: &[u8]) -> Option<usize> {
-    let digits = (1..=3).contains(&field.len()) && field.iter().all(u8::is_ascii_digit);
-    digits.then(|| field.iter().fold(0, |number, digit| 10 * number + (digit - b'0') as usize))
 }

@@ -1,15 +1,17 @@
-//! Compares the proved node with the reference: `compare CALLS SEED [YARD]`.
+//! Compares the proved node with the reference: `compare CALLS SEED [YARD [LOAD]]`.
 //!
-//! CALLS generated and crafted calls from the seed, then a hostile list for each thousand calls. YARD is the path of
-//! the compiled yard; without it yard inputs are left out. A bad argument is refused with the usage line.
+//! CALLS generated and crafted calls from the seed, then a hostile list for each thousand calls. YARD and LOAD are the
+//! paths of the compiled yard and load; the inputs of one that is not named are left out. A bad argument is refused
+//! with the usage line.
 
 use differential::arguments::{Arguments, USAGE};
 use differential::hostile::hostile;
 use differential::lists::Totals;
+use differential::program::Programs;
 use differential::run::{Cases, Tally};
 use reference::random::Random;
 use std::fmt::Display;
-use std::path::Path;
+use std::path::PathBuf;
 use std::time::Instant;
 
 /// Steps of a list.
@@ -20,32 +22,32 @@ fn main() {
         eprintln!("compare: {message}\n{USAGE}");
         std::process::exit(2);
     });
-    let Arguments { calls, seed, yard } = arguments;
-    println!(
-        "seed {seed}, {calls} calls, yard {}",
-        yard.as_ref().map_or("left out".into(), |path| path.display().to_string())
-    );
+    let Arguments { calls, seed, programs } = arguments;
+    let named =
+        |program: &Option<PathBuf>| program.as_ref().map_or("left out".into(), |path| path.display().to_string());
+    println!("seed {seed}, {calls} calls, yard {}, load {}", named(&programs.yard), named(&programs.load));
     let start = Instant::now();
-    run_calls(calls, seed, yard.as_deref(), start);
+    run_calls(calls, seed, &programs, start);
     run_lists(calls / 1000, seed, start);
 }
 
-/// Generated and crafted calls, and yard inputs if there is a yard.
-fn run_calls(calls: usize, seed: u64, yard: Option<&Path>, start: Instant) {
+/// Generated and crafted calls, and inputs of the programs that are named.
+fn run_calls(calls: usize, seed: u64, programs: &Programs, start: Instant) {
     let mut cases = Cases::new(seed);
     let mut tally = Tally::default();
     for index in 0..calls {
         let case = cases.case();
-        if let Err(difference) = tally.add(&case, yard) {
+        if let Err(difference) = tally.add(&case, programs) {
             stop(&difference, &format!("call {} of seed {seed}: compare {} {seed}", index + 1, index + 1));
         }
         progress("calls", index + 1, calls, start);
     }
     println!("{}", tally.counts.table());
-    if tally.yards_left_out > 0 {
-        println!("{} yard inputs left out: no program named", tally.yards_left_out);
+    let Tally { calls, yards, loads, left_out, .. } = tally;
+    if left_out > 0 {
+        println!("{left_out} yard or load inputs left out: no program named");
     }
-    println!("{} calls, {} yard inputs compared, no difference", tally.calls, tally.yards);
+    println!("{calls} calls, {yards} yard inputs, {loads} load inputs compared, no difference");
 }
 
 /// Hostile lists, each from a seed of its own.

@@ -1,0 +1,90 @@
+//! A simulated plant: n nodes, their shelves, the frames issued so far under a limit, and the tally.
+
+use crate::list::List;
+use crate::{DeliverAnswer, OfferAnswer, Refusal, SendAnswer};
+use std::fmt::{self, Display, Formatter};
+use std::ops::RangeInclusive;
+
+/// Nodes that a plant may have.
+pub const NODES: RangeInclusive<usize> = 2..=4;
+
+/// User frames, extras, frames delivered, delays (delivers that answer none), extras per hundred user frames.
+#[derive(Clone, Copy, Debug, Default, PartialEq, Eq)]
+pub struct Tally {
+    pub users: usize,
+    pub extras: usize,
+    pub delivered: usize,
+    pub delays: usize,
+    pub share: usize,
+}
+
+impl Tally {
+    /// Counts issued frames; the share is rounded down, and 0 without user frames.
+    fn count_issued(&mut self, users: usize, extras: usize) {
+        self.users += users;
+        self.extras += extras;
+        self.share = (self.extras * 100).checked_div(self.users).unwrap_or(0);
+    }
+}
+
+/// Prints the five T numbers.
+impl Display for Tally {
+    fn fmt(&self, f: &mut Formatter<'_>) -> fmt::Result {
+        let Tally { users, extras, delivered, delays, share } = self;
+        write!(f, "{users} {extras} {delivered} {delays} {share}")
+    }
+}
+
+/// The nodes with what they issued, how many frames they may issue in all, and the tally of their steps.
+#[derive(Clone, Debug)]
+pub struct Plant {
+    pub list: List,
+    pub tally: Tally,
+    issues: usize,
+}
+
+impl Plant {
+    /// A plant before its first step; 1 when n or cap is out of range.
+    pub fn start(n: usize, cap: usize, issues: usize) -> Result<Plant, Refusal> {
+        Ok(Plant { list: List::start(n, cap)?, tally: Tally::default(), issues })
+    }
+
+    /// A send from i with an empty body; nothing with fewer than n issues left.
+    pub fn send(&mut self, i: usize, j: usize) -> Option<SendAnswer> {
+        if !self.has_room() {
+            return None;
+        }
+        let answer = self.list.send(i, j, &[]);
+        if let SendAnswer::Sent { extras, .. } = answer {
+            self.tally.count_issued(1, extras);
+        }
+        Some(answer)
+    }
+
+    /// An offer of an issued frame, counted from 0, at its destination.
+    pub fn offer(&mut self, issue: usize) -> OfferAnswer {
+        self.list.offer(self.list.frame(issue).to(), issue)
+    }
+
+    /// A deliver at a node; nothing with fewer than n issues left.
+    pub fn deliver(&mut self, node: usize) -> Option<DeliverAnswer> {
+        if !self.has_room() {
+            return None;
+        }
+        let (answer, _) = self.list.deliver(node);
+        match answer {
+            DeliverAnswer::None { .. } => self.tally.delays += 1,
+            DeliverAnswer::Delivered(delivery) => {
+                self.tally.delivered += 1;
+                self.tally.count_issued(0, delivery.extras);
+            }
+            DeliverAnswer::Refused(_) => (),
+        }
+        Some(answer)
+    }
+
+    /// Whether at least n issues are left, as many as a step can make.
+    fn has_room(&self) -> bool {
+        self.list.issued.len() + self.list.n() <= self.issues
+    }
+}
