@@ -4,6 +4,9 @@ use world::Outcome;
 use world::Stepped;
 use world::World;
 ghost use mathlib.Core.Path.{_≡_};
+ghost use Prim.Native.Nat.{_<_};
+ghost use Rattle.world.specs.Start.{maxSimulated};
+ghost use Rattle.world.specs.Stored.{storedBy};
 ghost use Rattle.counting.specs.State.{waits, countedBy};
 ghost use Rattle.counting.specs.Stands.{Few};
 
@@ -20,8 +23,8 @@ fn waits(ready: bool) -> u32
     if ready { 0 } else { 1 }
 }
 
-// The counters after a step of that outcome.
-fn counted(t: Counters, o: Outcome) -> Counters
+/// The counters after a step of that outcome.
+pub fn counted(t: Counters, o: Outcome) -> Counters
     requires { ⌜ Few o ⌝ }
     ensures { λ r. ⌜ r ≡ countedBy t o ⌝ }
 {
@@ -38,13 +41,19 @@ fn counted(t: Counters, o: Outcome) -> Counters
     }
 }
 
-/// The state after a step, of which t are the counters before it.
-pub fn state_after(t: Counters, s: Stepped) -> State
-    requires { ⌜ Few (s .outcome) ⌝ }
-    ensures { λ r. ⌜ (r .world ≡ s .world) × (r .counters ≡ countedBy t (s .outcome)) ⌝ }
+/// The state after a step.
+pub fn state_after(y: State, s: Stepped) -> State
+    requires { ⌜ Few (s .outcome) × (s .at < maxSimulated) ⌝ }
+    ensures { λ r. ⌜ (r .world ≡ storedBy (y .world) s) × (r .counters ≡ countedBy (y .counters) (s .outcome)) ⌝ }
 {
     let outcome = s.outcome;
+    let t = y.counters;
     let counters = counted(t, outcome);
-    let world = s.world;
+    let at = s.at;
+    let node = s.node;
+    let mut world = y.world;
+    world.nodes[at] = node;
+    world.issued = s.issued;
+    world.end = s.end;
     State { world, counters }
 }

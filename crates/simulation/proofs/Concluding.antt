@@ -12,7 +12,7 @@ use Rattle.counters.specs.declared.Counters.{Counters}
 use Rattle.causality.specs.Demand3.{Issue, World}
 use Rattle.world.proofs.Keeping.{holds-later}
 use Rattle.world.specs.Steps.{AfterStep, frames}
-use Rattle.world.specs.Stored.{Holds, joined}
+use Rattle.world.specs.Stored.{Holds, joined, storedBy}
 use Rattle.world.specs.declared.Outcome.{Outcome}
 use Rattle.world.specs.declared.Stepped.{Stepped}
 use Rattle.world.specs.declared.World.{World as Stored}
@@ -33,7 +33,7 @@ abbrev pub Told : (n cap k : ℕ) (a : AfterStep) (o : Outcome) (s : Stored) (q 
 Told n cap k a o s q l = (o ≡ a .outcome) × Holds n cap maxIssues (k + 1) (a .world) s q l
 
 module _ (n cap k : ℕ) (v : World) (w : Stored) (q l : List ℕ) (h : Holds n cap maxIssues k v w q l) (x : ℕ) (a : AfterStep) (f : StepFacts x v a)
-    (s : Stepped) (q′ l′ : List ℕ) (told : Told n cap k a (s .outcome) (s .world) q′ l′) where
+    (s : Stepped) (q′ l′ : List ℕ) (told : Told n cap k a (s .outcome) (storedBy w s) q′ l′) where
   abbrev g : List (List ℕ)
   g = frames (a .world .log)
 
@@ -47,31 +47,31 @@ module _ (n cap k : ℕ) (v : World) (w : Stored) (q l : List ℕ) (h : Holds n 
   ends : w .end ≡ length (joined (take (w .issued) g))
   ends = h .end ∙ ap (λ (y : List (List ℕ)). length (joined y)) (sym seam)
 
-  whole : length g ≡ s .world .issued
+  whole : length g ≡ s .issued
   whole = length-map (a .world .log) (λ (i : Issue). i .frame) ∙ sym (told .1 .issued)
 
-  pub grows : w .issued ≤ s .world .issued
+  pub grows : w .issued ≤ s .issued
   grows = omega (arith, h .issued, told .1 .issued, ap length (f .grown .1), length-append (v .log) (f .grown .0))
 
   pub small-told : Small x (s .outcome)
   small-told = subst (Small x) (sym (told .0)) (f .small)
 
-  in-log : InLog (w .issued) (s .world .issued) (w .end) l′ g
+  in-log : InLog (w .issued) (s .issued) (w .end) l′ g
   in-log = record { begins = told .1 .begins; whole = whole; ends = ends }
 
-  pub logged : Logged (w .issued) (s .world .issued) (w .end) l′
+  pub logged : Logged (w .issued) (s .issued) (w .end) l′
   logged = record { frames = g; log = in-log; order = grows; few = omega (arith, told .1 .issued, told .1 .below) }
 
-  pub enough : (at : ℕ) (o : List ℕ) → at + 20 + 17 * (75 - w .issued) ≤ length o → at + 20 + 17 * (s .world .issued - w .issued) ≤ length o
+  pub enough : (at : ℕ) (o : List ℕ) → at + 20 + 17 * (75 - w .issued) ≤ length o → at + 20 + 17 * (s .issued - w .issued) ≤ length o
   enough at o r = omega (arith, told .1 .issued, told .1 .below)
 
-  pub bounded : (r : Taken) (at : ℕ) → r .yard .world ≡ s .world → r .end ≤ at + 20 + 17 * (s .world .issued - w .issued)
+  pub bounded : (r : Taken) (at : ℕ) → r .yard .world ≡ storedBy w s → r .end ≤ at + 20 + 17 * (s .issued - w .issued)
       → r .end + 17 * w .issued ≤ at + 20 + 17 * r .yard .world .issued
   bounded r at e b = omega (arith, grows, ap (λ (y : Stored). y .issued) e)
 
   -- what the outcome prints is what the definition prints
   printed-told : (at end : ℕ) (o o′ : List ℕ)
-      → ((g : List (List ℕ)) → InLog (w .issued) (s .world .issued) (w .end) l′ g
+      → ((g : List (List ℕ)) → InLog (w .issued) (s .issued) (w .end) l′ g
       → Wrote (printedBy x (issueRows (w .issued + 1) (drop (w .issued) g)) (s .outcome)) at o end o′)
       → Wrote (printedBy x (newRows v (a .world)) (a .outcome)) at o end o′
   printed-told at end o o′ p =
@@ -81,9 +81,9 @@ module _ (n cap k : ℕ) (v : World) (w : Stored) (q l : List ℕ) (h : Holds n 
 -- the line is taken
 module _ (n cap k : ℕ) (z : State) (w : Stored) (t : Counters) (q l : List ℕ) (h : Holds n cap maxIssues k (z .world) w q l) (counters : t ≡ z .counters) (x : ℕ)
     (a : AfterStep) (f : StepFacts x (z .world) a)
-    (s : Stepped) (q′ l′ : List ℕ) (told : Told n cap k a (s .outcome) (s .world) q′ l′) where
-  pub took-step : (r : Taken) (at : ℕ) (o o′ : List ℕ) → r .yard .world ≡ s .world → r .yard .counters ≡ countedBy t (s .outcome)
-      → ((g : List (List ℕ)) → InLog (w .issued) (s .world .issued) (w .end) l′ g
+    (s : Stepped) (q′ l′ : List ℕ) (told : Told n cap k a (s .outcome) (storedBy w s) q′ l′) where
+  pub took-step : (r : Taken) (at : ℕ) (o o′ : List ℕ) → r .yard .world ≡ storedBy w s → r .yard .counters ≡ countedBy t (s .outcome)
+      → ((g : List (List ℕ)) → InLog (w .issued) (s .issued) (w .end) l′ g
       → Wrote (printedBy x (issueRows (w .issued + 1) (drop (w .issued) g)) (s .outcome)) at o (r .end) o′)
       → Took n cap k (afterStep z x a) at o r q′ l′ o′
   took-step r at o o′ ew ec p =

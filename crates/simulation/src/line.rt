@@ -3,7 +3,6 @@ use super::MAX_ISSUES;
 use super::Taken;
 use super::print;
 use commands::Command;
-use counters::Counters;
 use counting::State;
 use world::Stepped;
 ghost use mathlib.Core.Path.{_≡_};
@@ -12,7 +11,8 @@ ghost use Prim.Native.Nat.{ℕ, _+_, _-_, _*_, _≤_, _<_};
 ghost use lib.ListN.{length, take, drop};
 ghost use Rattle.commands.specs.Commands.{command};
 ghost use Rattle.commands.specs.declared.Command.the-variants as command;
-ghost use Rattle.world.specs.Stored.{Standing, StandingRecords};
+ghost use Rattle.world.specs.Start.{maxSimulated};
+ghost use Rattle.world.specs.Stored.{Standing, StandingRecords, storedBy};
 ghost use Rattle.text.specs.Wrote.{Wrote};
 ghost use Rattle.counting.specs.State.{State as Lists, countedBy};
 ghost use Rattle.counting.specs.Stands.{Few, Stands};
@@ -22,7 +22,7 @@ ghost use Rattle.simulation.specs.Stands.{Room, Took};
 
 // What a step leaves and prints: before it there were `from` issues, of which the last ends at `place`.
 fn conclude(
-    t: Counters,
+    y: State,
     x: usize,
     s: Stepped,
     log: &[u8],
@@ -31,16 +31,17 @@ fn conclude(
     out: &mut [u8],
     at: usize,
 ) -> Taken
-    requires { ⌜ Few (s .outcome) × Small x (s .outcome) × Logged from (s .world .issued) place (now log)
-        × (at + 20 + 17 * (s .world .issued - from) ≤ length (now out)) ⌝ }
-    ensures { λ r. ⌜ (r .yard .world ≡ s .world) × (r .yard .counters ≡ countedBy t (s .outcome)) × (r .end ≤ at + 20 + 17 * (s .world .issued - from))
-        × ((f : List (List ℕ)) → InLog from (s .world .issued) place (now (log .entry)) f
+    requires { ⌜ Few (s .outcome) × (s .at < maxSimulated) × Small x (s .outcome) × Logged from (s .issued) place (now log)
+        × (at + 20 + 17 * (s .issued - from) ≤ length (now out)) ⌝ }
+    ensures { λ r. ⌜ (r .yard .world ≡ storedBy (y .world) s) × (r .yard .counters ≡ countedBy (y .counters) (s .outcome))
+        × (r .end ≤ at + 20 + 17 * (s .issued - from))
+        × ((f : List (List ℕ)) → InLog from (s .issued) place (now (log .entry)) f
         → Wrote (printedBy x (issueRows (from + 1) (drop from f)) (s .outcome)) at (now (out .entry)) (r .end) (now (out .exit))) ⌝ }
 {
     let outcome = s.outcome;
-    let to = s.world.issued;
+    let to = s.issued;
     let end = print::put_outcome(out, at, x, outcome, log, place, from, to);
-    let yard = counting::state_after(t, s);
+    let yard = counting::state_after(y, s);
     Taken { yard, end }
 }
 
@@ -53,10 +54,9 @@ fn send(y: State, i: usize, j: usize, log: &mut [u8], out: &mut [u8], at: usize)
 {
     let from = y.world.issued;
     let place = y.world.end;
-    let t = y.counters;
     let w = y.world;
     let s = world::send::send(w, MAX_ISSUES, i, j, log);
-    conclude(t, i, s, log, place, from, out, at)
+    conclude(y, i, s, log, place, from, out, at)
 }
 
 // A: an offer.
@@ -68,10 +68,9 @@ fn offer(y: State, m: usize, queues: &mut [u8], log: &[u8], out: &mut [u8], at: 
 {
     let from = y.world.issued;
     let place = y.world.end;
-    let t = y.counters;
     let w = y.world;
     let s = world::offer::offer(w, MAX_ISSUES, m, queues, log);
-    conclude(t, m, s, log, place, from, out, at)
+    conclude(y, m, s, log, place, from, out, at)
 }
 
 // D: a deliver.
@@ -90,10 +89,9 @@ fn deliver(
 {
     let from = y.world.issued;
     let place = y.world.end;
-    let t = y.counters;
     let w = y.world;
     let s = world::deliver::deliver(w, MAX_ISSUES, j, queues, log);
-    conclude(t, j, s, log, place, from, out, at)
+    conclude(y, j, s, log, place, from, out, at)
 }
 
 /// A line, which has its line feed no more: steps the world, counts, and prints from `at` on.

@@ -19,6 +19,7 @@ use Rattle.node.specs.declared.Node.{Node as Record}
 use Rattle.causality.specs.Demand3.{Answer, Issue, Step, World, afterCall, issuedBy, issuedFrames}
 use Rattle.world.proofs.Logs.{joined-append, joined-one, joined-none}
 use Rattle.world.proofs.Reach.{IssuedFacts, issued-facts, reached-later}
+use Rattle.world.specs.declared.Outcome.{Outcome}
 use Rattle.world.specs.declared.World.{World as Stored}
 use Rattle.world.specs.Steps.{frames}
 use Rattle.world.specs.Stored.{BeginsWith, Holds, joined, noRecord, queueAt, storedAfter}
@@ -80,6 +81,11 @@ holds-later n cap limit k w s q l h = record {
   begins = h .begins;
   end = h .end;
 }
+
+-- an outcome and a stored world under another name
+pub as-stored : (n cap limit k : ℕ) (w : World) (p o o′ : Outcome) (s s′ : Stored) (q l : List ℕ) → o′ ≡ o → s′ ≡ s → (o ≡ p) × Holds n cap limit k w s q l
+    → (o′ ≡ p) × Holds n cap limit k w s′ q l
+as-stored n cap limit k w p o o′ s s′ q l eo es d = (eo ∙ d .0, subst (λ (x : Stored). Holds n cap limit k w x q l) (sym es) (d .1))
 
 -- a call at node i that issues nothing
 pub stored-still : (s : Stored) (i : ℕ) (r : Record) → storedAfter s i r 0 0 ≡ record { n = s .n; nodes = set (s .nodes) i r; issued = s .issued; end = s .end }

@@ -11,6 +11,7 @@ use Rattle.node.specs.declared.Node.{Node as Record}
 use Rattle.node.specs.SetUp.{setUp}
 use Rattle.node.specs.Sizes.{outSize}
 use Rattle.causality.specs.Demand3.{World}
+use Rattle.world.specs.declared.Stepped.{Stepped}
 use Rattle.world.specs.declared.World.{World as Stored}
 use Rattle.world.specs.Start.{maxSimulated}
 use Rattle.world.specs.Reached.{Reached}
@@ -89,3 +90,7 @@ StandingRecords limit s l = (q : List ℕ) × Standing limit s q l
 -- the record r in place of node i's, and so many frames and bytes more
 abbrev pub storedAfter : Stored → ℕ → Record → ℕ → ℕ → Stored
 storedAfter s i r count bytes = record { n = s .n; nodes = set (s .nodes) i r; issued = s .issued + count; end = s .end + bytes }
+
+-- a stored world after a step: its record stands at its node, its counts are those of the world
+abbrev pub storedBy : Stored → Stepped → Stored
+storedBy s r = record { n = s .n; nodes = set (s .nodes) (r .at) (r .node); issued = r .issued; end = r .end }

@@ -37,8 +37,12 @@ pub enum Outcome {
     },
 }
 
-/// A step's outcome and the world.
+/// What a step leaves: its outcome, the record that now stands at node `at`, how many frames are issued, and where the last of them ends in the log.
+/// The other records stay, so the world is not copied: the caller writes these three into it.
 pub struct Stepped {
     pub outcome: Outcome,
-    pub world: World,
+    pub at: usize,
+    pub node: Node,
+    pub issued: usize,
+    pub end: usize,
 }

@@ -3,32 +3,28 @@ use super::Outcome;
 use super::Stepped;
 use super::World;
 use super::log;
+use super::store;
 use node::Node;
 use node::OfferAnswer;
 ghost use mathlib.Core.Path.{_≡_};
 ghost use Prim.Native.Nat.{ℕ, _+_, _<_};
 ghost use Rattle.causality.specs.Demand3.{World as Lists};
-ghost use Rattle.world.specs.Stored.{Holds, Standing};
+ghost use Rattle.world.specs.Stored.{Holds, Standing, storedBy};
+ghost use Rattle.world.specs.Start.{maxSimulated};
 ghost use Rattle.world.specs.Steps.{offerStep};
 
 /// Offers an issue, counted from 1, at its destination; 17 where it was not made.
 pub fn offer(w: World, limit: usize, issue: usize, queues: &mut [u8], log: &[u8]) -> Stepped
     requires { ⌜ Standing limit w (now queues) (now log) ⌝ }
-    ensures { λ r. ⌜ ((n cap k : ℕ) (v : Lists) → k + 1 < 1000000000 → Holds n cap limit k v w (now (queues .entry)) (now (log .entry))
+    ensures { λ r. ⌜ (r .at < maxSimulated) × ((n cap k : ℕ) (v : Lists) → k + 1 < 1000000000 → Holds n cap limit k v w (now (queues .entry)) (now (log .entry))
         → (r .outcome ≡ offerStep v issue .outcome)
-        × Holds n cap limit (k + 1) (offerStep v issue .world) (r .world) (now (queues .exit)) (now (log .entry))) ⌝ }
+        × Holds n cap limit (k + 1) (offerStep v issue .world) (storedBy w r) (now (queues .exit)) (now (log .entry))) ⌝ }
 {
     if issue == 0 {
-        return Stepped {
-            outcome: Outcome::Refused(17),
-            world: w,
-        };
+        return store::unchanged(w, Outcome::Refused(17));
     }
     if w.issued < issue {
-        return Stepped {
-            outcome: Outcome::Refused(17),
-            world: w,
-        };
+        return store::unchanged(w, Outcome::Refused(17));
     }
     let start = log::skip(log, issue - 1);
     let end = log::frame_end(log, start);
@@ -39,17 +35,15 @@ pub fn offer(w: World, limit: usize, issue: usize, queues: &mut [u8], log: &[u8]
     let offered = record.offer(&log[start..end], &mut queues[first..last]);
     let answer = offered.answer;
     match answer {
-        OfferAnswer::Refused(why) => Stepped {
-            outcome: Outcome::Refused(why),
-            world: w,
-        },
+        OfferAnswer::Refused(why) => store::unchanged(w, Outcome::Refused(why)),
         OfferAnswer::Held { count, ready } => {
-            let mut next = w;
             let after = offered.node;
-            next.nodes[to] = after;
             Stepped {
                 outcome: Outcome::Held { count, ready },
-                world: next,
+                at: to,
+                node: after,
+                issued: w.issued,
+                end: w.end,
             }
         }
     }

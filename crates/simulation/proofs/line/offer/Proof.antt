@@ -13,12 +13,13 @@ offer-requires c κs = search needs
 conclude-requires : tie.Need-conclude-requires
 conclude-requires c κs =
     let s = c .before .before .before in
-    let a = s .before .before .before .before .before .before .before in
+    let a = s .before .before .before .before .before .before in
     let p = a .pre in
     let d = p .1 in
-    let t = s .offer .ensures (d .n) (d .cap) (d .k) (d .world) (d .more) (d .holds) in
+    let t = s .offer .ensures .1 (d .n) (d .cap) (d .k) (d .world) (d .more) (d .holds) in
     let f = offer-facts (d .world) (a .args .m) (p .0) in (
       few-as _ _ (t .0) (offer-few (d .world) (a .args .m)),
+      s .offer .ensures .0,
       small-told _ _ _ _ _ _ _ (d .holds) _ _ f _ _ _ t,
       logged _ _ _ _ _ _ _ (d .holds) _ _ f _ _ _ t,
       enough _ _ _ _ _ _ _ (d .holds) _ _ f _ _ _ t _ (a .args .out .now) (p .2),
@@ -34,14 +35,14 @@ returns : tie.Need-returns
 unfolding line
 returns c =
     let s = c .before .before .before .before .before .before in
-    let a = s .before .before .before .before .before .before .before in
+    let a = s .before .before .before .before .before .before in
     let p = a .pre in
     let d = p .1 in
-    let t = s .offer .ensures (d .n) (d .cap) (d .k) (d .world) (d .more) (d .holds) in
+    let t = s .offer .ensures .1 (d .n) (d .cap) (d .k) (d .world) (d .more) (d .holds) in
     let r = c .before .before .conclude .ensures in (
       bounded _ _ _ _ _ _ _ (d .holds) _ _ (offer-facts (d .world) (a .args .m) (p .0)) _ _ _ t (c .before .before .conclude .result) _ (r .0) (r .2),
       λ n cap k z short st. took-step n cap k z _ _ _ _ (st .world) (st .counters) _ _ (offer-facts (z .world) (a .args .m) (p .0)) _ _ _
-          (s .offer .ensures n cap k (z .world) short (st .world)) _ _ _ _ (r .0) (r .1) (r .3),
+          (s .offer .ensures .1 n cap k (z .world) short (st .world)) _ _ _ _ (r .0) (r .1) (r .3),
     )
 
 pub offer-spec : {M : Type 1} → statement M

@@ -7,7 +7,7 @@ use lib.Seq.{length-take-le}
 use Rattle.causality.specs.Demand3.{Issue, World}
 use Rattle.holdback.specs.Slots.{zeros}
 use Rattle.world.proofs.Delivers.{deliver-17, deliver-frame, deliver-nothing, deliver-refused, delivered-few, delivered-inside, delivered-room}
-use Rattle.world.proofs.Keeping.{begins-with}
+use Rattle.world.proofs.Keeping.{as-stored, begins-with}
 use Rattle.world.proofs.Sends.{stops-issues, stops-node}
 use Rattle.world.proofs.Queues.{wide}
 use Rattle.world.specs.Steps.{frames}
@@ -20,6 +20,7 @@ use Rattle.world.proofs.deliver.deliver.Lts as lts
 use Rattle.node.proofs.Node.deliver.Reads as deliver-reads
 use Rattle.world.proofs.log.find.Reads as find-reads
 use Rattle.world.proofs.store.store.Reads as store-reads
+use Rattle.world.proofs.store.unchanged.Reads as unchanged-reads
 
 -- the issues that are left, for any world that is stored
 left : (c : tie.After-known-told3) (n cap k : ℕ) (v : World) → Holds n cap
@@ -41,15 +42,30 @@ few c =
     (wide (c .before .before .before .before .before .before .before .before .before .before .before .before .before .before .before .before .args .at)) _ _ _ _
     (c .before .before .before .before .before .before .before .deliver .ensures) (search needs) _ (c .before .answer3 .given .1)
 
+unchanged-requires : tie.Need-unchanged-requires
+unchanged-requires c κs = search needs
+
 returns : tie.Need-returns
-returns c = λ n cap k v short h. deliver-17 n cap _ k v _ _ _ h short _ (stops-node n _ _ v (omega (arith, h .nodes)))
+returns c =
+    let u = c .unchanged .ensures in (
+      u .1,
+      λ n cap k v short h. as-stored n cap _ (k + 1) _ _ _ _ _ _ _ _ (u .0) (u .2)
+          (deliver-17 n cap _ k v _ _ _ h short _ (stops-node n _ _ v (omega (arith, h .nodes)))),
+    )
 
 add-if2 : tie.Need-add-if2
 add-if2 c = search needs
 
+unchanged-requires-2 : tie.Need-unchanged-requires-2
+unchanged-requires-2 c κs = search needs
+
 returns-2 : tie.Need-returns-2
 returns-2 c =
-    λ n cap k v short h. deliver-17 n cap _ k v _ _ _ h short _ (stops-issues n _ _ v (omega (arith, h .nodes, h .issued)) (omega (arith, h .range .atLeast2)))
+    let u = c .unchanged2 .ensures in (
+      u .1,
+      λ n cap k v short h. as-stored n cap _ (k + 1) _ _ _ _ _ _ _ _ (u .0) (u .2)
+          (deliver-17 n cap _ k v _ _ _ h short _ (stops-issues n _ _ v (omega (arith, h .nodes, h .issued)) (omega (arith, h .range .atLeast2)))),
+    )
 
 mul-record : tie.Need-mul-record
 mul-record c = search needs
@@ -130,12 +146,6 @@ store-requires c κs =
     .before .before .pre .1 in (
       omega (
         arith,
-        x .holds .nodes,
-        x .holds .few,
-        c .before .before .before .before .before .before .before .before .before .before .before .before .before .before .before .before .before .if1 .left,
-      ),
-      omega (
-        arith,
         few (c .before .before .before .before),
         c .before .before .before .before .before .before .before .before .before .before .before .before .before .before .before .before
             .before .before .before .before .pre .0,
@@ -152,31 +162,37 @@ store-requires c κs =
           (search needs) _ (c .before .before .before .before .before .answer3 .given .1),
     )
 
+unchanged-requires-3 : tie.Need-unchanged-requires-3
+unchanged-requires-3 c κs = search needs
+
+unchanged-requires-4 : tie.Need-unchanged-requires-4
+unchanged-requires-4 c κs = search needs
+
 same-length : tie.Need-same-length
 same-length c = search needs
 
 returns-3 : tie.Need-returns-3
 unfolding zeros
-returns-3 c = λ n cap k v short h. deliver-refused n cap _ k v _ _ _ h short _ (omega (
-  arith,
-  h .nodes,
-  c .before .before .before .before .before .before .before .before .before .before .before .before .before .if1 .left,
-)) (omega (arith, h .nodes, h .issued, c .before .before .before .before .before .before .before .before .before .before .before .before .if2 .left)) _ refl _
-    (wide (c .before .before .before .before .before .before .before .before .before .before .before .before .before .before .before .before .args .at)) _ _ _ _
-    (c .before .before .before .before .before .before .before .deliver .ensures) (search needs) _ (c .before .answer .given .1)
+returns-3 c =
+    let u = c .unchanged3 .ensures in (
+      u .1,
+      λ n cap k v short h. as-stored n cap _ (k + 1) _ _ _ _ _ _ _ _ (u .0) (u .2) (deliver-refused n cap _ k v _ _ _ h short _
+          (omega (arith, h .nodes, c .before .before .before .before .before .before .before .before .before .before .before .before .before .before .if1 .left)) (omega (arith, h .nodes, h .issued, c .before .before .before .before .before .before .before .before .before .before .before .before .before .if2 .left)) _ refl _
+          (wide (c .before .before .before .before .before .before .before .before .before .before .before .before .before .before .before .before .before .args .at)) _ _ _ _ (c .before .before .before .before .before .before .before .before .deliver .ensures) (search needs) _ (c .before .before .answer .given .1)),
+    )
 
 same-length-2 : tie.Need-same-length-2
 same-length-2 c = search needs
 
 returns-4 : tie.Need-returns-4
 unfolding zeros
-returns-4 c = λ n cap k v short h. deliver-nothing n cap _ k v _ _ _ h short _ (omega (
-  arith,
-  h .nodes,
-  c .before .before .before .before .before .before .before .before .before .before .before .before .before .if1 .left,
-)) (omega (arith, h .nodes, h .issued, c .before .before .before .before .before .before .before .before .before .before .before .before .if2 .left)) _ refl _
-    (wide (c .before .before .before .before .before .before .before .before .before .before .before .before .before .before .before .before .args .at)) _ _ _ _
-    (c .before .before .before .before .before .before .before .deliver .ensures) (search needs) _ (c .before .answer2 .given .1)
+returns-4 c =
+    let u = c .unchanged4 .ensures in (
+      u .1,
+      λ n cap k v short h. as-stored n cap _ (k + 1) _ _ _ _ _ _ _ _ (u .0) (u .2) (deliver-nothing n cap _ k v _ _ _ h short _
+          (omega (arith, h .nodes, c .before .before .before .before .before .before .before .before .before .before .before .before .before .before .if1 .left)) (omega (arith, h .nodes, h .issued, c .before .before .before .before .before .before .before .before .before .before .before .before .before .if2 .left)) _ refl _
+          (wide (c .before .before .before .before .before .before .before .before .before .before .before .before .before .before .before .before .before .args .at)) _ _ _ _ (c .before .before .before .before .before .before .before .before .deliver .ensures) (search needs) _ (c .before .before .answer2 .given .1)),
+    )
 
 same-length-3 : tie.Need-same-length-3
 same-length-3 c = search needs
@@ -187,30 +203,24 @@ same-length-4 c = search needs
 returns-5 : tie.Need-returns-5
 unfolding zeros
 returns-5 c =
-    λ n cap k v short h. deliver-frame n cap _ k v _ _ _ h short _ (omega (
-      arith,
-      h .nodes,
-      c .before .before .before .before .before .before .before .before .before .before .before .before .before .before .before .before
-          .before .before .before .before .if1 .left,
-    )) (omega (
-      arith,
-      h .nodes,
-      h .issued,
-      c .before .before .before .before .before .before .before .before .before .before .before .before .before .before .before
-          .before .before .before .before .if2 .left,
-    )) _ refl _ (wide (c .before .before .before .before .before .before .before .before .before .before .before .before .before .before .before .before .before
-    .before .before .before .before .before .before .args .at)) _ _ _ _
-    (c .before .before .before .before .before .before .before .before .before .before .before .before .before .before .deliver .ensures) (search needs) _
-    (c .before .before .before .before .before .before .before .before .answer3 .given .1) _ (c .before .before .before .before .before .find .ensures
-    (frames (v .log)) (h .begins) (omega (arith, h .issued, length-map (v .log) (λ (g : Issue). g .frame)))) _ _
-    (c .before .before .store .ensures .0) (c .before .before .store .ensures .1)
+    let e = c .before .before .store .ensures in
+    let x = c .before .before .before .before .before .before .before .before .before .before .before .before .before .before .before .before .before .before .before .before .before .before .before .pre .1 in (
+      omega (arith, e .1, x .holds .nodes, x .holds .few, c .before .before .before .before .before .before .before .before .before .before .before .before .before .before .before .before .before .before .before .before .if1 .left),
+      λ n cap k v short h. as-stored n cap _ (k + 1) _ _ _ _ _ _ _ _ (e .0) (e .2) (deliver-frame n cap _ k v _ _ _ h short _
+          (omega (arith, h .nodes, c .before .before .before .before .before .before .before .before .before .before .before .before .before .before .before .before .before .before .before .before .if1 .left)) (omega (arith, h .nodes, h .issued, c .before .before .before .before .before .before .before .before .before .before .before .before .before .before .before .before .before .before .before .if2 .left)) _ refl _
+          (wide (c .before .before .before .before .before .before .before .before .before .before .before .before .before .before .before .before .before .before .before .before .before .before .before .args .at)) _ _ _ _ (c .before .before .before .before .before .before .before .before .before .before .before .before .before .before .deliver .ensures) (search needs) _ (c .before .before .before .before .before .before .before .before .answer3 .given .1) _
+          (c .before .before .before .before .before .find .ensures (frames (v .log)) (h .begins)
+          (omega (arith, h .issued, length-map (v .log) (λ (g : Issue). g .frame)))) _ _ refl (e .3)),
+    )
 
 pub deliver-spec : {M : Type 1} → statement M
 deliver-spec =
     tie.close
     (tie.spec
+    unchanged-requires
     returns
     add-if2
+    unchanged-requires-2
     returns-2
     mul-record
     element-copy-out-record
@@ -223,7 +233,9 @@ deliver-spec =
     slice-aggregate-deliver-2
     deliver-requires
     enum-known-answer
+    unchanged-requires-3
     enum-known-answer-2
+    unchanged-requires-4
     enum-known-answer-3
     find-requires
     array-share-prefix-out

@@ -1,5 +1,5 @@
 -- The tests in order, the frame found in the log, the call, and what it leaves. Assumes nothing.
-use Prim.Native.Nat.{ℕ, _-_, _<_}
+use Prim.Native.Nat.{ℕ, _+_, _-_, _<_}
 use mathlib.Core.List.{[]}
 use mathlib.Core.Path.{_≡_, _∙_, ap, refl}
 use native.Mathlib.Omega.{arith}
@@ -8,7 +8,7 @@ use Rattle.arrival.proofs.Sound.{header-room}
 use Rattle.frame.specs.declared.header.Header.{Header}
 use Rattle.frame.specs.Header.{header}
 use Rattle.causality.specs.Demand3.{Issue, World, destination}
-use Rattle.world.proofs.Keeping.{begins-with}
+use Rattle.world.proofs.Keeping.{as-stored, begins-with}
 use Rattle.world.proofs.Logs.{LogPart, log-part, log-room}
 use Rattle.world.proofs.Offers.{offer-held, offer-none, offer-past, offer-refused, offer-to}
 use Rattle.world.proofs.Queues.{wide}
@@ -23,6 +23,7 @@ use Rattle.frame.proofs.header.read.Reads as read-reads
 use Rattle.node.proofs.Node.offer.Reads as offer-reads
 use Rattle.world.proofs.log.frame_end.Reads as frame-end-reads
 use Rattle.world.proofs.log.skip.Reads as skip-reads
+use Rattle.world.proofs.store.unchanged.Reads as unchanged-reads
 
 -- the frame of the issue, in the log of any world that is stored
 part : (c : tie.After-frame-end) (n cap k : ℕ) (v : World)
@@ -60,11 +61,26 @@ below c =
           (c .before .before .before .before .before .if1 .left) (omega (arith, x .holds .issued)) _ (heads c (x .n) (x .cap) (x .k) (x .world) (x .holds)),
     )
 
+unchanged-requires : tie.Need-unchanged-requires
+unchanged-requires c κs = search needs
+
 returns : tie.Need-returns
-returns c = λ n cap k v short h. offer-none n cap _ k v _ _ _ h short _ (c .if1 .taken)
+returns c =
+    let u = c .unchanged .ensures in (
+      u .1,
+      λ n cap k v short h. as-stored n cap _ (k + 1) _ _ _ _ _ _ _ _ (u .0) (u .2) (offer-none n cap _ k v _ _ _ h short _ (c .before .if1 .taken)),
+    )
+
+unchanged-requires-2 : tie.Need-unchanged-requires-2
+unchanged-requires-2 c κs = search needs
 
 returns-2 : tie.Need-returns-2
-returns-2 c = λ n cap k v short h. offer-past n cap _ k v _ _ _ h short _ (c .before .if1 .left) (omega (arith, h .issued))
+returns-2 c =
+    let u = c .unchanged2 .ensures in (
+      u .1,
+      λ n cap k v short h. as-stored n cap _ (k + 1) _ _ _ _ _ _ _ _ (u .0) (u .2)
+          (offer-past n cap _ k v _ _ _ h short _ (c .before .before .if1 .left) (omega (arith, h .issued))),
+    )
 
 sub-skip : tie.Need-sub-skip
 sub-skip c = search needs
@@ -141,45 +157,47 @@ enum-known-answer c = search needs
 enum-known-answer-2 : tie.Need-enum-known-answer-2
 enum-known-answer-2 c = search needs
 
-mul-after : tie.Need-mul-after
-mul-after c = search needs
-
-element-set-from-after : tie.Need-element-set-from-after
-element-set-from-after c =
-    let b = below (c .before .before .before .before .before .before .before .before .before .before .before) in
-    let x = c .before .before .before .before .before .before .before .before .before .before .before .before .before .before .before .before .before .before
-    .before .pre in
-    omega (arith, x .holds .nodes, x .holds .few)
+unchanged-requires-3 : tie.Need-unchanged-requires-3
+unchanged-requires-3 c κs = search needs
 
 same-length : tie.Need-same-length
 same-length c = search needs
 
 returns-3 : tie.Need-returns-3
 returns-3 c =
-    λ n cap k v short h. offer-refused n cap _ k v _ _ _ h short _
-    (c .before .before .before .before .before .before .before .before .before .before .before .before .before .before .before .if1 .left)
-    (omega (arith, h .issued)) _ (heads (c .before .before .before .before .before .before .before .before .before .before) n cap k v h) _ refl _
-    (part (c .before .before .before .before .before .before .before .before .before .before .before .before) n cap k v h .same) _
-    (wide (c .before .before .before .before .before .before .before .before .before .before .read .result .to)) _ _
-    (c .before .before .before .before .before .offer .ensures) (search needs) _ (c .before .answer .given .1)
+    let u = c .unchanged3 .ensures in (
+      u .1,
+      λ n cap k v short h. as-stored n cap _ (k + 1) _ _ _ _ _ _ _ _ (u .0) (u .2) (offer-refused n cap _ k v _ _ _ h short _
+          (c .before .before .before .before .before .before .before .before .before .before .before .before .before .before .before .before .if1 .left)
+          (omega (arith, h .issued, c .before .before .before .before .before .before .before .before .before .before .before .before .before .before .before .if2 .left)) _ (heads (c .before .before .before .before .before .before .before .before .before .before .before) n cap k v h) _ refl _
+          (part (c .before .before .before .before .before .before .before .before .before .before .before .before .before) n cap k v h .same) _
+          (wide (c .before .before .before .before .before .before .before .before .before .before .before .read .result .to)) _ _
+          (c .before .before .before .before .before .before .offer .ensures) (search needs) _ (c .before .before .answer .given .1)),
+    )
 
 same-length-2 : tie.Need-same-length-2
 same-length-2 c = search needs
 
 returns-4 : tie.Need-returns-4
 returns-4 c =
-    λ n cap k v short h. offer-held n cap _ k v _ _ _ h short _
-    (c .before .before .before .before .before .before .before .before .before .before .before .before .before .before .before .before .if1 .left)
-    (omega (arith, h .issued)) _ (heads (c .before .before .before .before .before .before .before .before .before .before .before) n cap k v h) _ refl _
-    (part (c .before .before .before .before .before .before .before .before .before .before .before .before .before) n cap k v h .same) _
-    (wide (c .before .before .before .before .before .before .before .before .before .before .before .read .result .to)) _ _
-    (c .before .before .before .before .before .before .offer .ensures) (search needs) _ _ (c .before .before .answer2 .given .1) _ refl
+    let b = below (c .before .before .before .before .before .before .before .before .before .before .before) in
+    let x = c .before .before .before .before .before .before .before .before .before .before .before .before .before .before .before .before .before .before .before .pre in (
+      omega (arith, x .holds .nodes, x .holds .few),
+      λ n cap k v short h. offer-held n cap _ k v _ _ _ h short _
+          (c .before .before .before .before .before .before .before .before .before .before .before .before .before .before .before .before .if1 .left)
+          (omega (arith, h .issued)) _ (heads (c .before .before .before .before .before .before .before .before .before .before .before) n cap k v h) _ refl _
+          (part (c .before .before .before .before .before .before .before .before .before .before .before .before .before) n cap k v h .same) _
+          (wide (c .before .before .before .before .before .before .before .before .before .before .before .read .result .to)) _ _
+          (c .before .before .before .before .before .before .offer .ensures) (search needs) _ _ (c .before .before .answer2 .given .1) _ refl,
+    )
 
 pub offer-spec : {M : Type 1} → statement M
 offer-spec =
     tie.close
     (tie.spec
+    unchanged-requires
     returns
+    unchanged-requires-2
     returns-2
     sub-skip
     skip-requires
@@ -201,9 +219,8 @@ offer-spec =
     part-offer-end-2
     offer-requires
     enum-known-answer
+    unchanged-requires-3
     enum-known-answer-2
-    mul-after
-    element-set-from-after
     same-length
     returns-3
     same-length-2

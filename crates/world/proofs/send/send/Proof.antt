@@ -5,6 +5,7 @@ use native.Mathlib.Omega.{arith}
 use lib.ListN.{length, take}
 use lib.Seq.{length-take-le}
 use Rattle.holdback.specs.Slots.{zeros}
+use Rattle.world.proofs.Keeping.{as-stored}
 use Rattle.world.proofs.Sends.{send-17, send-refused, send-sent, sent-few, sent-inside, sent-room, stops-issues, stops-node}
 use borrow.Author.Needs.{needs}
 use Rattle.world.proofs.send.send.Statement.{statement}
@@ -13,6 +14,7 @@ use Rattle.world.proofs.send.send.Reads as reads
 use Rattle.world.proofs.send.send.Lts as lts
 use Rattle.node.proofs.Node.send.Reads as send-reads
 use Rattle.world.proofs.store.store.Reads as store-reads
+use Rattle.world.proofs.store.unchanged.Reads as unchanged-reads
 
 -- what the accepted call leaves, for the world that is asked for
 few : (c : tie.After-known-told2) → c .before .answer2 .given .0 .1 .0 ≤ 12
@@ -41,15 +43,30 @@ room c =
     sent-room (x .n) (x .cap) _ (x .k) (x .world) _ (d .0) _ (x .holds) (x .more) _ _ (omega (arith, x .holds .nodes))
     (omega (arith, x .holds .nodes, x .holds .issued)) _ refl _ _ (c .before .before .before .before .send .ensures) _ _ (c .before .answer2 .given .1)
 
+unchanged-requires : tie.Need-unchanged-requires
+unchanged-requires c κs = search needs
+
 returns : tie.Need-returns
-returns c = λ n cap k v q short h. send-17 n cap _ k v _ q _ h short _ _ (stops-node n _ _ v (omega (arith, h .nodes)))
+returns c =
+    let u = c .unchanged .ensures in (
+      u .1,
+      λ n cap k v q short h. as-stored n cap _ (k + 1) _ _ _ _ _ _ q _ (u .0) (u .2)
+          (send-17 n cap _ k v _ q _ h short _ _ (stops-node n _ _ v (omega (arith, h .nodes)))),
+    )
 
 add-if2 : tie.Need-add-if2
 add-if2 c = search needs
 
+unchanged-requires-2 : tie.Need-unchanged-requires-2
+unchanged-requires-2 c κs = search needs
+
 returns-2 : tie.Need-returns-2
 returns-2 c =
-    λ n cap k v q short h. send-17 n cap _ k v _ q _ h short _ _ (stops-issues n _ _ v (omega (arith, h .nodes, h .issued)) (omega (arith, h .range .atLeast2)))
+    let u = c .unchanged2 .ensures in (
+      u .1,
+      λ n cap k v q short h. as-stored n cap _ (k + 1) _ _ _ _ _ _ q _ (u .0) (u .2)
+          (send-17 n cap _ k v _ q _ h short _ _ (stops-issues n _ _ v (omega (arith, h .nodes, h .issued)) (omega (arith, h .range .atLeast2)))),
+    )
 
 mul-record : tie.Need-mul-record
 mul-record c = search needs
@@ -87,16 +104,22 @@ slice-aggregate-store c = sym (length-take-le _ _ (inside (c .before .before)))
 store-requires : tie.Need-store-requires
 store-requires c κs =
     let x = c .before .before .before .before .before .before .before .before .before .before .before .before .before .pre .1 .1 in (
-      omega (arith, x .holds .nodes, x .holds .few),
       omega (arith, few (c .before .before), c .before .before .before .before .before .before .before .before .before .before .before .before .before .pre .0),
       room (c .before .before),
     )
 
+unchanged-requires-3 : tie.Need-unchanged-requires-3
+unchanged-requires-3 c κs = search needs
+
 returns-3 : tie.Need-returns-3
 unfolding zeros
 returns-3 c =
-    λ n cap k v q short h. send-refused n cap _ k v _ q _ h short _ _ (omega (arith, h .nodes)) (omega (arith, h .nodes, h .issued)) _ refl _ _
-    (c .before .before .before .before .send .ensures) _ (c .before .answer .given .1)
+    let u = c .unchanged3 .ensures in (
+      u .1,
+      λ n cap k v q short h. as-stored n cap _ (k + 1) _ _ _ _ _ _ q _ (u .0) (u .2)
+          (send-refused n cap _ k v _ q _ h short _ _ (omega (arith, h .nodes)) (omega (arith, h .nodes, h .issued)) _ refl _ _
+          (c .before .before .before .before .before .send .ensures) _ (c .before .before .answer .given .1)),
+    )
 
 same-length : tie.Need-same-length
 same-length c = search needs
@@ -104,16 +127,23 @@ same-length c = search needs
 returns-4 : tie.Need-returns-4
 unfolding zeros
 returns-4 c =
-    λ n cap k v q short h. send-sent n cap _ k v _ q _ h short _ _ (omega (arith, h .nodes))
-    (omega (arith, h .nodes, h .issued)) _ refl _ _ (c .before .before .before .before .before .before .before .before .before .send .ensures) _ _
-    (c .before .before .before .before .before .before .answer2 .given .1) _ _ (c .before .before .store .ensures .0) (c .before .before .store .ensures .1)
+    let e = c .before .before .store .ensures in
+    let x = c .before .before .before .before .before .before .before .before .before .before .before .before .before .before .before .before .pre .1 .1 in (
+      omega (arith, e .1, x .holds .nodes, x .holds .few),
+      λ n cap k v q short h. as-stored n cap _ (k + 1) _ _ _ _ _ _ q _ (e .0) (e .2)
+          (send-sent n cap _ k v _ q _ h short _ _ (omega (arith, h .nodes))
+          (omega (arith, h .nodes, h .issued)) _ refl _ _ (c .before .before .before .before .before .before .before .before .before .send .ensures) _ _
+          (c .before .before .before .before .before .before .answer2 .given .1) _ _ refl (e .3)),
+    )
 
 pub send-spec : {M : Type 1} → statement M
 send-spec =
     tie.close
     (tie.spec
+    unchanged-requires
     returns
     add-if2
+    unchanged-requires-2
     returns-2
     mul-record
     element-copy-out-record
@@ -122,6 +152,7 @@ send-spec =
     slice-aggregate-send-2
     send-requires
     enum-known-answer
+    unchanged-requires-3
     enum-known-answer-2
     add-store
     array-share-prefix-out
