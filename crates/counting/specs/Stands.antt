@@ -2,7 +2,9 @@
 use Prim.Native.Nat.{ℕ, _<_}
 use mathlib.Core.List.{List}
 use mathlib.Core.Path.{_≡_}
+use Rattle.causality.specs.Demand3.{start}
 use Rattle.world.specs.Stored.{Holds}
+use Rattle.world.specs.declared.World.{World}
 use Rattle.world.specs.declared.Outcome.{Outcome}
 use Rattle.world.specs.declared.Outcome.the-variants as outcome
 use Rattle.counting.specs.State.{State}
@@ -20,3 +22,9 @@ Few (outcome.Delivered issue tried extras) = extras < 100
 pub record Stands (n cap limit k : ℕ) (z : State) (y : Stored) (q l : List ℕ) : Type 0 where
   pub world : Holds n cap limit k (z .world) (y .world) q l
   pub counters : y .counters ≡ z .counters
+
+-- the start of some simulation is stored
+pub record Opened (limit : ℕ) (w : World) (q l : List ℕ) : Type 0 where
+  pub n : ℕ
+  pub cap : ℕ
+  pub holds : Holds n cap limit 0 (start n cap) w q l

@@ -2,7 +2,7 @@
 use Prim.Native.Nat.{ℕ, _+_, _-_, _*_, _≤_, _<_}
 use mathlib.Core.Bool.{true, false}
 use mathlib.Core.List.{List, [], _∷_}
-use mathlib.Core.Path.{_≡_, refl, sym, ap, _∙_, subst}
+use mathlib.Core.Path.{_≡_, refl, ap, _∙_}
 use native.Mathlib.Nat.{sub-zero}
 use native.Mathlib.Omega.{arith}
 use borrow.Author.Tests.{le-ltb, lt-ltb}
@@ -13,12 +13,13 @@ use Rattle.text.proofs.Pieces.{split-found, split-none, split-some}
 use Rattle.commands.specs.FirstLine.{firstLine}
 use Rattle.commands.specs.declared.FirstLine.{FirstLine}
 use Rattle.commands.specs.declared.FirstLine.the-variants as first
-use Rattle.holdback.specs.Slots.{queueSize, zeros}
+use Rattle.holdback.specs.Slots.{queueSize}
 use Rattle.causality.specs.Demand3.{start}
-use Rattle.world.proofs.Starts.{holds-start, opens}
+use Rattle.world.proofs.Starts.{opens}
 use Rattle.world.specs.Stored.{Holds, fresh, logSize}
 use Rattle.world.specs.Start.{maxSimulated, startable}
 use Rattle.world.specs.declared.World.{World}
+use Rattle.counting.proofs.Lists.{stored-start as opened-at}
 use Rattle.counting.specs.State.{opened}
 use Rattle.simulation.specs.Yard.{alone, lines, maxInput, maxIssues, ofLines, output, started}
 
@@ -26,10 +27,7 @@ use Rattle.simulation.specs.Yard.{alone, lines, maxInput, maxIssues, ofL
 pub stored-start : (n c : ℕ) → startable n (c ∷ c ∷ c ∷ c ∷ []) ≡ true → (w : World) → w ≡ fresh n (c ∷ c ∷ c ∷ c ∷ []) → (i j : ℕ)
     → i ≡ queueSize * maxSimulated → j ≡ logSize maxIssues
     → Holds n c maxIssues 0 (start n c) w (replicate i 0) (replicate j 0)
-unfolding zeros
-stored-start n c s w e i j a b =
-    subst (λ (x : World). Holds n c maxIssues 0 (start n c) x (replicate i 0) (replicate j 0)) (sym e)
-    (holds-start n c maxIssues (opens n c s) (replicate i 0) (replicate j 0) (ap zeros a) (length-replicate j 0 ∙ b))
+stored-start n c s w e i j a b = opened-at n c maxIssues (opens n c s) w e i a (replicate j 0) (length-replicate j 0 ∙ b)
 
 -- a first line's sizes in range, or not
 pub started-yes : (n c : ℕ) (ls : List (List ℕ)) → startable n (c ∷ c ∷ c ∷ c ∷ []) ≡ true → started (first.Sizes n c) ls ≡ lines n (opened n c) ls

@@ -4,9 +4,6 @@ use mathlib.Core.List.{List}
 use mathlib.Core.Path.{_≡_}
 use lib.ListN.{length}
 use Rattle.wire.specs.Bytes.{put}
-use Rattle.causality.specs.Demand3.{start}
-use Rattle.world.specs.Stored.{Holds}
-use Rattle.world.specs.declared.World.{World}
 use Rattle.counting.specs.Stands.{Stands}
 use Rattle.counting.specs.declared.State.{State}
 use Rattle.simulation.specs.Yard.{AfterLine, maxIssues}
@@ -21,9 +18,3 @@ pub record Took (n cap k : ℕ) (a : AfterLine) (at : ℕ) (o : List ℕ) (r : T
 -- from `at` on the output o has room for one line and for each frame that is still issued: 20 bytes, and 17 for a frame
 abbrev pub Room : ℕ → State → List ℕ → Type 0
 Room at y o = at + 20 + 17 * (75 - y .world .issued) ≤ length o
-
--- the start of some yard is stored
-pub record Opened (w : World) (q l : List ℕ) : Type 0 where
-  pub n : ℕ
-  pub cap : ℕ
-  pub holds : Holds n cap maxIssues 0 (start n cap) w q l

@@ -17,9 +17,9 @@ ghost use Rattle.commands.specs.declared.FirstLine.the-variants as first;
 ghost use Rattle.causality.specs.Demand3.{start};
 ghost use Rattle.world.specs.Stored.{Holds};
 ghost use Rattle.counting.specs.State.{opened};
+ghost use Rattle.counting.specs.Stands.{Opened};
 ghost use Rattle.simulation.specs.Yard.{maxInput, maxIssues, lines, started};
 ghost use Rattle.simulation.specs.Run.{outputSize, runCall};
-ghost use Rattle.simulation.specs.Stands.{Opened};
 
 /// Issues of a yard at most.
 pub const MAX_ISSUES: usize = 64;
@@ -50,7 +50,7 @@ fn run_lines(
     log: &mut [u8],
     out: &mut [u8],
 ) -> usize
-    requires { ⌜ Opened w (now queues) (now log) × (from ≤ length (now input)) × (length (now input) ≤ maxInput) × (outputSize ≤ length (now out)) ⌝ }
+    requires { ⌜ Opened maxIssues w (now queues) (now log) × (from ≤ length (now input)) × (length (now input) ≤ maxInput) × (outputSize ≤ length (now out)) ⌝ }
     ensures { λ r. ⌜ (r ≤ outputSize)
         × ((n cap : ℕ) → Holds n cap maxIssues 0 (start n cap) w (now (queues .entry)) (now (log .entry))
         → WroteWhole (lines n (opened n cap) (split 10 (drop from (now (input .entry))))) (now (out .entry)) r (now (out .exit))) ⌝ }

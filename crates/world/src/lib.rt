@@ -5,7 +5,7 @@ pub mod log;
 pub mod offer;
 pub mod send;
 pub mod start;
-mod store;
+pub mod store;
 
 use node::Node;
 
