@@ -1,9 +1,9 @@
 -- Demand 1, from each call by its refusal. Assumes nothing.
-use Prim.Native.Nat.{ℕ}
+use Prim.Native.Nat.{ℕ, _<_}
 use mathlib.Core.Bool.{Bool, true, false, cond, not}
 use mathlib.Core.List.{List, []}
 use mathlib.Core.Option.{Option, none, some}
-use mathlib.Core.Path.{_≡_, refl, ap, _∙_}
+use mathlib.Core.Path.{_≡_, refl, sym, ap, _∙_}
 use native.Mathlib.Omega.{arith}
 use native.Mathlib.Decide.{ℕ-discrete}
 use borrow.Author.Tests.{ne-eqb}
@@ -27,8 +27,21 @@ use Rattle.protocol.specs.Node.{atLimit}
 use Rattle.protocol.specs.Offer.{holding}
 use Rattle.protocol.specs.Send.{sending}
 use Rattle.rules.specs.Rules.{inRange}
-use Rattle.refusals.proofs.First.{by-first}
-use Rattle.refusals.specs.Demand1.{DeliverSays, Demand1, OfferSays, SendSays, SetUpSays, deliverChecks, firstMet, offerChecks, sendChecks, setUpChecks}
+use Rattle.text.proofs.Print.{run-short}
+use Rattle.text.specs.Output.{afterRun}
+use Rattle.text.specs.Print.{refusalRow}
+use Rattle.text.specs.declared.Ran.the-variants.{TooShort}
+use Rattle.request.proofs.Laws.{in-range, other-refused}
+use Rattle.request.specs.Refusal18.{outOfRange, refused18, wrong}
+use Rattle.request.specs.Request.{request}
+use Rattle.request.specs.declared.Request.{Request}
+use Rattle.request.specs.declared.Request.the-variants as asks
+use Rattle.sweep.proofs.Outputs.{answered-refused, answered-table, not-refusal}
+use Rattle.sweep.specs.Load as load
+use Rattle.sweep.specs.Run.{outputSize, runCall}
+use Rattle.refusals.proofs.First.{by-first, not-both}
+use Rattle.refusals.specs.Demand1.{Answers, DeliverSays, Demand1, First, LoadSays, OfferSays, SendSays, SetUpSays}
+use Rattle.refusals.specs.Demand1.{deliverChecks, firstMet, loadChecks, offerChecks, sendChecks, setUpChecks}
 use Rattle.node.specs.declared.Node.{Node as Record}
 use Rattle.node.specs.declared.SetUp.{SetUp}
 use Rattle.node.specs.declared.SetUpAnswer.the-variants as setUpAnswer
@@ -210,5 +223,66 @@ deliver-says r q out body =
       );
     }
 
+-- ---- the load
+tabled-not : (n seed draws k : ℕ) → ¬ (load.tabled n seed draws ≡ load.refused k)
+tabled-not n seed draws k e = let z : _≡_ {A = ℕ} 0 1 = cc in absurd (omega arith)
+
+-- the table that a request is answered with where it is not refused
+abbrev tableOf : Request → load.Answer
+tableOf (asks.Load n seed draws) = load.tabled n seed draws
+tableOf asks.Other = load.tabled 0 0 0
+
+table-not : (r : Request) (k : ℕ) → ¬ (tableOf r ≡ load.refused k)
+table-not (asks.Load n seed draws) k = tabled-not n seed draws k
+table-not asks.Other k = tabled-not 0 0 0 k
+
+table-number : (r : Request) → load.loadNumber (tableOf r) ≡ 0
+table-number (asks.Load n seed draws) = refl
+table-number asks.Other = refl
+
+answer-by : (b : Bool) (x : load.Answer) → cond b (load.refused 18) x ≡ cond (eqb (cond b 18 0) 0) x (load.refused (cond b 18 0))
+answer-by true x = refl
+answer-by false x = refl
+
+load-by : (r : Request) → load.answered r ≡ cond (eqb (cond (wrong r) 18 0) 0) (tableOf r) (load.refused (cond (wrong r) 18 0))
+unfolding load.answered wrong
+load-by (asks.Load n seed draws) = answer-by (outOfRange n seed draws) (load.tabled n seed draws)
+load-by asks.Other = refl
+
+module _ (s : List ℕ) where
+  load-answers : Answers load.refused load.loadNumber (loadChecks s) (load.answered (request s))
+  unfolding refused18
+  load-answers =
+      by-first load.refused load.loadNumber (loadChecks s) (tableOf (request s)) (load.answered (request s)) (omega arith, tt) (load-by (request s)) (λ k. refl)
+      (table-number (request s)) (table-not (request s))
+
+  -- where it is not refused, a table is printed
+  never-printed : (r : Request) → request s ≡ r → wrong (request s) ≡ false → ¬ (load.output s ≡ refusalRow 18)
+  never-printed (asks.Load n seed draws) e h p =
+      let i = in-range (request s) n seed draws e h in
+      not-refusal n seed draws 18 (i .twoNodes) (i .fourNodes) (ap load.printed (sym (answered-table (request s) n seed draws e h)) ∙ p)
+  never-printed asks.Other e h p = not-both (wrong (request s)) (other-refused (request s) e) h
+
+  load-printed : load.output s ≡ refusalRow 18 → First (loadChecks s) 18
+  load-printed p = go (wrong (request s)) refl
+    where
+      go : (b : Bool) → wrong (request s) ≡ b → First (loadChecks s) 18
+      go true e = load-answers .refusal 18 (answered-refused (request s) e)
+      go false e = absurd (never-printed (request s) refl e p)
+
+  load-same : (out : List ℕ) → length out < outputSize → runCall s out ≡ afterRun TooShort out
+  unfolding runCall
+  load-same out h = sym (run-short outputSize (load.output s) out h)
+
+  load-says : LoadSays s
+  load-says =
+      record {
+        numbers = refl;
+        answers = load-answers;
+        printed = load-printed;
+        prints = λ f. ap load.printed (load-answers .refuses 18 f);
+        same = load-same;
+      }
+
 pub demand1 : Demand1
-demand1 = record { setUp = set-up-says; send = send-says; offer = offer-says; deliver = deliver-says }
+demand1 = record { setUp = set-up-says; send = send-says; offer = offer-says; deliver = deliver-says; load = load-says }

@@ -22,7 +22,7 @@ met-above k (c ∷ l) a j (inl m) = omega (arith, a .0, m .0)
 met-above k (c ∷ l) a j (inr m) = omega (arith, a .0, met-above (c .number) l (a .1) j m)
 
 -- a test is not both
-not-both : (b : Bool) → b ≡ true → b ≡ false → ⊥
+pub not-both : (b : Bool) → b ≡ true → b ≡ false → ⊥
 not-both true p q = let z : _≡_ {A = ℕ} 0 1 = cc in absurd (omega arith)
 not-both false p q = let z : _≡_ {A = ℕ} 0 1 = cc in absurd (omega arith)
 

@@ -1,5 +1,6 @@
 -- Demand 1: each call answers with the first of its checks that is met, in rising order, and a refusal leaves record and buffers as they were.
--- The calls are `setUp`, `sendCall`, `offerCall` and `deliverCall`, the definitions that the promises of set-up, send, offer and deliver cite.
+-- The calls are `setUp`, `sendCall`, `offerCall` and `deliverCall`, the definitions that the promises of set-up, send, offer and deliver cite,
+-- and `runCall` of the load (document 02, (i)), whose refusal is printed.
 use Prim.Native.Nat.{ℕ, _<_}
 use mathlib.Core.Bool.{Bool, true, cond, not, _||_}
 use mathlib.Core.List.{List, [], _∷_, map}
@@ -28,10 +29,17 @@ use Rattle.node.specs.SetUp.{freshRecord, setUp}
 use Rattle.node.specs.Answers.{AfterDeliver, AfterOffer, AfterSend, deliverNumber, offerNumber, sendNumber, setUpNumber}
 use Rattle.node.specs.Sizes.{outSize}
 use Rattle.node.specs.Calls.{deliverCall, offerCall, sendCall}
+use Rattle.text.specs.Output.{afterRun}
+use Rattle.text.specs.Print.{refusalRow}
+use Rattle.text.specs.declared.Ran.the-variants.{TooShort}
+use Rattle.request.specs.Refusal18.{refused18}
+use Rattle.request.specs.Request.{request}
+use Rattle.sweep.specs.Load.{answered, loadNumber, output, refused}
+use Rattle.sweep.specs.Run.{outputSize, runCall}
 
 -- ---- checks, and the first that is met
 
--- a check: its number in document 01, and whether it is met
+-- a check: its number in the papers, and whether it is met
 pub record Check : Type 0 where
   pub number : ℕ
   pub met : Bool
@@ -73,7 +81,7 @@ pub record Answers {A : Type 0} (refused : ℕ → A) (number : A → ℕ) (l : 
   pub refusal : (k : ℕ) → answer ≡ refused k → First l k
   pub refuses : (k : ℕ) → First l k → answer ≡ refused k
 
--- ---- the checks of the four calls, each in document 01's words, in rising order
+-- ---- the checks of each call, in the papers' words, in rising order
 
 -- set-up: 1. n, me or cap is out of range.
 abbrev pub setUpChecks : (me n cap : ℕ) → List Check
@@ -133,6 +141,10 @@ deliverChecks r q out body =
     ∷ check 5 (atLimit (nodeOf r []))
     ∷ []
 
+-- the load: 18. The line has another form, n is out of range, the seed is 0 or above 32 bits, or the draws are not 1 to 400.
+abbrev pub loadChecks : (input : List ℕ) → List Check
+loadChecks input = check 18 (refused18 input) ∷ []
+
 -- ---- demand 1
 
 -- set-up: a refusal comes with the all-zero record
@@ -159,9 +171,18 @@ pub record DeliverSays (r : Record) (q out body : List ℕ) (c : AfterDeliver) :
   pub answers : Answers deliverAnswer.Refused deliverNumber (deliverChecks r q out body) (c .result .answer)
   pub same : ¬ (deliverNumber (c .result .answer) ≡ 0) → (c .result .node ≡ r) × (c .queue ≡ q) × (c .out ≡ out) × (c .body ≡ body)
 
+-- the load: `R 18` alone is printed exactly where 18 is met, and an output that is too short is left as it is
+pub record LoadSays (input : List ℕ) : Type 0 where
+  pub numbers : numbers (loadChecks input) ≡ 18 ∷ []
+  pub answers : Answers refused loadNumber (loadChecks input) (answered (request input))
+  pub printed : output input ≡ refusalRow 18 → First (loadChecks input) 18
+  pub prints : First (loadChecks input) 18 → output input ≡ refusalRow 18
+  pub same : (out : List ℕ) → length out < outputSize → runCall input out ≡ afterRun TooShort out
+
 -- demand 1, for every input
 pub record Demand1 : Type 0 where
   pub setUp : (me n cap : ℕ) → SetUpSays me n cap (setUp me n cap)
   pub send : (r : Record) (to : ℕ) (body out : List ℕ) → SendSays r to body out (sendCall r to body out)
   pub offer : (r : Record) (s q : List ℕ) → OfferSays r s q (offerCall r s q)
   pub deliver : (r : Record) (q out body : List ℕ) → DeliverSays r q out body (deliverCall r q out body)
+  pub load : (input : List ℕ) → LoadSays input

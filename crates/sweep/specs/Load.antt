@@ -59,15 +59,26 @@ table n seed draws = capRows n seed draws n (n * n + 1 - n)
 
 -- ---- The output
 
--- `R 18` alone
-abbrev pub alone : List ℕ
-alone = refusalRow 18
+-- what a load answers: a refusal's number, or the table of n nodes, a seed and so many draws
+pub data Answer : Type 0 where
+  refused : ℕ → Answer
+  tabled : (n seed draws : ℕ) → Answer
 
--- what a request is answered with: the table, or `R 18` alone where a number is out of range or the line has another form
-unfoldable pub answered : Request → List ℕ
-answered (request.Load n seed draws) = cond (outOfRange n seed draws) alone (table n seed draws)
-answered request.Other = alone
+-- the number of a refusal, and 0 where the load is not refused
+abbrev pub loadNumber : Answer → ℕ
+loadNumber (refused k) = k
+loadNumber (tabled n seed draws) = 0
+
+-- what a request is answered with: 18 where a number is out of range or the line has another form, before the first draw
+unfoldable pub answered : Request → Answer
+answered (request.Load n seed draws) = cond (outOfRange n seed draws) (refused 18) (tabled n seed draws)
+answered request.Other = refused 18
+
+-- what is printed for an answer: the refusal's line alone, or the table
+abbrev pub printed : Answer → List ℕ
+printed (refused k) = refusalRow k
+printed (tabled n seed draws) = table n seed draws
 
 -- what the load prints for an input
 abbrev pub output : List ℕ → List ℕ
-output s = answered (request s)
+output s = printed (answered (request s))

@@ -3,10 +3,11 @@ use mathlib.Core.Path.{_∙_, ap, sym}
 use native.Mathlib.Nat.{zero-add}
 use native.Mathlib.Omega.{arith}
 use Rattle.text.proofs.Print.{run-short, run-written}
+use Rattle.request.specs.declared.Request.{Request}
 use Rattle.request.proofs.Laws.{InRange, in-range}
-use Rattle.sweep.specs.Load.{answered}
+use Rattle.sweep.specs.Load.{answered, printed}
 use Rattle.sweep.specs.Run.{runCall}
-use Rattle.sweep.proofs.Outputs.{answered-alone, answered-table}
+use Rattle.sweep.proofs.Outputs.{answered-refused, answered-table}
 use borrow.Author.Needs.{needs}
 use Rattle.sweep.proofs.run.Statement.{statement}
 use Rattle.sweep.proofs.run.Tie as tie
@@ -32,7 +33,7 @@ unfolding runCall
 returns-2 c =
     let r = c .before .before .put-refusal .ensures in
     let w = sym (c .before .before .before .before .before .is-wrong .ensures) ∙ c .before .before .before .before .if2 .taken in (
-      run-written _ _ _ (omega arith) _ (ap answered (sym (c .before .before .before .before .before .before .parse .ensures)) ∙ answered-alone _ w) _ _ (r .1 .0 ∙ zero-add _) (r .1 .1),
+      run-written _ _ _ (omega arith) _ (ap (λ (x : Request). printed (answered x)) (sym (c .before .before .before .before .before .before .parse .ensures)) ∙ ap printed (answered-refused _ w)) _ _ (r .1 .0 ∙ zero-add _) (r .1 .1),
       omega (arith, r .0),
     )
 
@@ -63,7 +64,7 @@ unfolding runCall
 returns-3 c =
     let r = c .before .before .put-table .ensures in
     let w = sym (c .before .before .before .before .before .before .before .before .is-wrong .ensures) ∙ c .before .before .before .before .before .before .before .if2 .left in (
-      run-written _ _ _ (omega arith) _ (ap answered (sym (c .before .before .before .before .before .before .before .before .before .parse .ensures)) ∙ answered-table _ _ _ _ (c .before .before .before .before .before .asked .given .1) w) _ _ (r .1 .0) (r .1 .1),
+      run-written _ _ _ (omega arith) _ (ap (λ (x : Request). printed (answered x)) (sym (c .before .before .before .before .before .before .before .before .before .parse .ensures)) ∙ ap printed (answered-table _ _ _ _ (c .before .before .before .before .before .asked .given .1) w)) _ _ (r .1 .0) (r .1 .1),
       r .0,
     )
 
@@ -74,7 +75,7 @@ returns-4 : tie.Need-returns-4
 unfolding runCall answered
 returns-4 c =
     let r = c .before .before .put-refusal2 .ensures in (
-      run-written _ _ _ (omega arith) _ (ap answered (sym (c .before .before .before .before .before .before .before .before .parse .ensures) ∙ c .before .before .before .before .enum-told .given .1)) _ _ (r .1 .0 ∙ zero-add _) (r .1 .1),
+      run-written _ _ _ (omega arith) _ (ap (λ (x : Request). printed (answered x)) (sym (c .before .before .before .before .before .before .before .before .parse .ensures) ∙ c .before .before .before .before .enum-told .given .1)) _ _ (r .1 .0 ∙ zero-add _) (r .1 .1),
       omega (arith, r .0),
     )
 
