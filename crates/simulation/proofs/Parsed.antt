@@ -1,5 +1,5 @@
 -- A line with a command has at least three bytes, and the numbers of its fields are below 1,000. Assumes nothing.
-use Prim.Native.Nat.{ℕ, suc, _+_, _≤_, _<_}
+use Prim.Native.Nat.{ℕ, _+_, _≤_, _<_}
 use mathlib.Core.Bool.{cond}
 use mathlib.Core.List.{List, [], _∷_}
 use mathlib.Core.Path.{_≡_, refl, sym, _∙_, subst}
@@ -8,32 +8,15 @@ use native.Mathlib.Omega.{arith}
 use lib.Dec.{eqb, eqb→eq}
 use lib.ListN.{length}
 use Rattle.wire.proofs.Tests.{cond-elim}
-use Rattle.text.specs.Pieces.{grown, split}
+use Rattle.text.specs.Pieces.{split}
 use Rattle.text.specs.Fields.{value}
 use Rattle.text.specs.declared.Number.{Number}
 use Rattle.text.specs.declared.Number.the-variants.{Is, Not}
 use Rattle.text.proofs.Fields.{never-both, value-below, value-empty}
-use Rattle.text.proofs.Pieces.{split-some}
+use Rattle.text.proofs.Pieces.{split-total, total}
 use Rattle.commands.specs.Commands.{command, letter, ofPieces, withOne, withTwo}
 use Rattle.commands.specs.declared.Command.{Command}
 use Rattle.commands.specs.declared.Command.the-variants as command
-
--- the bytes of the pieces, and one more for each
-weight : List (List ℕ) → ℕ
-weight [] = 0
-weight (p ∷ ps) = length p + 1 + weight ps
-
-grown-weight : (b : ℕ) (ps : List (List ℕ)) → 1 ≤ length ps → weight (grown b ps) ≡ suc (weight ps)
-unfolding weight grown
-grown-weight b [] h = absurd (omega arith)
-grown-weight b (p ∷ ps) h = omega arith
-
-split-weight : (c : ℕ) (s : List ℕ) → weight (split c s) ≡ length s + 1
-unfolding weight split
-split-weight c [] = refl
-split-weight c (b ∷ s) =
-    cond-elim (λ (ps : List (List ℕ)). weight ps ≡ suc (length s) + 1) (eqb b c) ([] ∷ split c s) (grown b (split c s)) (λ t. omega (arith, split-weight c s))
-    (λ t. omega (arith, grown-weight b (split c s) (split-some c s), split-weight c s))
 
 -- what a command of a line of k bytes has
 abbrev InLine : ℕ → Command → Type 0
@@ -77,8 +60,8 @@ with-two k l i j (Is a) (Is b) e d w =
     cond-elim (InLine k) (eqb (letter l) 83) (command.Send a b) command.Other
     (λ t. omega (arith, letter-one l 83 (omega arith) (eqb→eq (letter l) 83 t))) (λ t. tt)
 
-of-pieces : (k : ℕ) (ps : List (List ℕ)) → weight ps ≡ k + 1 → InLine k (ofPieces ps)
-unfolding weight ofPieces
+of-pieces : (k : ℕ) (ps : List (List ℕ)) → total ps ≡ k + 1 → InLine k (ofPieces ps)
+unfolding total ofPieces
 of-pieces k [] w = tt
 of-pieces k (l ∷ []) w = tt
 of-pieces k (l ∷ i ∷ []) w = with-one k l i (value 3 i) refl (omega arith)
@@ -87,7 +70,7 @@ of-pieces k (l ∷ i ∷ j ∷ m ∷ ps) w = tt
 
 command-in-line : (s : List ℕ) → InLine (length s) (command s)
 unfolding command
-command-in-line s = of-pieces (length s) (split 32 s) (split-weight 32 s)
+command-in-line s = of-pieces (length s) (split 32 s) (split-total 32 s)
 
 pub send-line : (s : List ℕ) (i j : ℕ) → command s ≡ command.Send i j → 3 ≤ length s
 send-line s i j e = subst (InLine (length s)) e (command-in-line s)
