@@ -33,7 +33,8 @@ unfolding logSize
 run-cap-requires c κs =
     let w = c .before .before in
     let p = c .before .before .before .before .pre in
-    (p .0, p .1, w .loop .inv .1, c .before .loop-test .taken, p .2, w .loop .inv .3)
+    let more = c .before .loop-test .taken in
+    (p .0, p .1, omega (arith, w .loop .inv .1, more), omega (arith, w .loop .inv .1, more), p .2, w .loop .inv .3)
 
 put-cap-requires : tie.Need-put-cap-requires Inv-loop μ-loop
 put-cap-requires c κs =
@@ -57,7 +58,7 @@ loop-again c =
       omega (arith, w .loop .inv .1),
       omega (arith, more),
       c .before .before .before .before .before .run-cap .kept .1 .1 .1 .1 .0 ∙ w .loop .inv .3,
-      listing-goes _ _ _ _ _ _ _ _ (w .loop .inv .4) more _ (ap (λ (t : Counters). numberRow (w .loop .cap) (totals t)) (c .before .before .before .before .before .run-cap .ensures)) _ _
+      listing-goes _ _ _ _ _ _ _ _ (w .loop .inv .4) (omega (arith, more)) _ (ap (λ (t : Counters). numberRow (w .loop .cap) (totals t)) (c .before .before .before .before .before .run-cap .ensures)) _ _
           (r .0) (r .1 .0) (r .1 .1),
     )
 
