@@ -1,4 +1,4 @@
-//! Stored inputs of a program and what it prints for them: `crates/yard_examples` and `crates/load_examples`.
+//! Stored inputs of a program and what it prints for them: `crates/yard_examples` and `crates/load/examples`.
 
 use crate::program::{from_top, output};
 use std::path::Path;

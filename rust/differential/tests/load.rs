@@ -48,7 +48,7 @@ fn outputs_of_any_length() {
 
 #[test]
 fn stored_lines() {
-    stored::check("crates/load_examples", reference::load, &compiled("load"));
+    stored::check("crates/load/examples", reference::load, &compiled("load"));
 }
 
 #[test]
