@@ -32,7 +32,8 @@ module _ (s : List ℕ) (a b : ℕ) (first : a ≡ 0 + before 32 (drop 0 s)) (mo
 
   module _ (e : ℕ) (again : b < length s) (third : e ≡ b + 1 + before 32 (drop (b + 1) s)) where
     pub fields-three : e ≡ length s
-        → ofFields (split 32 s) ≡ ofNumbers (value 10 (take a s)) (value 10 (take (b - (a + 1)) (drop (a + 1) s))) (value 10 (take (e - (b + 1)) (drop (b + 1) s)))
+        → ofFields (split 32 s) ≡ ofNumbers (value 10 (take a s)) (value 10 (take (b - (a + 1)) (drop (a + 1) s))) (value 10 (take (e - (b + 1)) (drop
+        (b + 1) s)))
     unfolding ofFields
     fields-three h = rw (three-pieces 32 s a b e first more second again third h)
 

@@ -79,7 +79,8 @@ module _ (n cap k : ℕ) (v : World) (w : Stored) (q l : List ℕ) (h : Holds n 
       shown _ _ at end o o′ (sym (ap₂ (λ (i : ℕ) (y : Outcome). printedBy x (issueRows (i + 1) (drop i g)) y) (h .issued) (told .0))) (d .0) (d .1)
 
 -- the line is taken
-module _ (n cap k : ℕ) (z : State) (w : Stored) (t : Counters) (q l : List ℕ) (h : Holds n cap maxIssues k (z .world) w q l) (counters : t ≡ z .counters) (x : ℕ)
+module _ (n cap k : ℕ) (z : State) (w : Stored) (t : Counters) (q l : List ℕ) (h : Holds n cap maxIssues k (z .world) w q l) (counters : t ≡ z .counters)
+    (x : ℕ)
     (a : AfterStep) (f : StepFacts x (z .world) a)
     (s : Stepped) (q′ l′ : List ℕ) (told : Told n cap k a (s .outcome) (storedBy w s) q′ l′) where
   pub took-step : (r : Taken) (at : ℕ) (o o′ : List ℕ) → r .yard .world ≡ storedBy w s → r .yard .counters ≡ countedBy t (s .outcome)

@@ -76,6 +76,7 @@ unfolding setUp inRange cutFor sendCall offerCall deliverCall brokenRecord broke
     trailers.counted checksum total decode wrongQueue sameBytes heldRefused someRefused someAlike arrivalRefusal frameRefusal wrongTrailer hasTrailer countBack
     sumBack wrongKind wrongAddress wrongContent wrongBody wrongEntries eachOk entryOk precedes rising risingAfter zeros padded slots frameIn heldFrames without
     sendStep offerStep deliverStep named issueFrom startable capTaken upTo32 share noCounters withExtras countedSend countedOffer countedDelivery countedNothing
-    commands.letter commands.withOne commands.withTwo commands.ofPieces commands.command firstLine.sizes firstLine.ofPieces firstLine.firstLine row lineEnd spaced
+    commands.letter commands.withOne commands.withTwo commands.ofPieces commands.command firstLine.sizes firstLine.ofPieces firstLine.firstLine row lineEnd
+    spaced
     decimal digits value continued isDigit split grown output ofLines started lines line printedBy countedBy headerRow issueRows
 example = refl

@@ -58,7 +58,8 @@ pub running-starts : (n cap : ℕ) (s : List ℕ) (from : ℕ) (o : List ℕ) (y
 running-starts n cap s from o y q l h e =
     record { yard = opened n cap; steps = 0; few = omega arith; stands = record { world = h; counters = e }; end = zero-add _; bytes = refl }
 
-pub running-standing : (n cap : ℕ) (s : List ℕ) (from : ℕ) (o₀ : List ℕ) (y : StoredState) (q l o : List ℕ) (at pos : ℕ) → Running n cap s from o₀ y q l o at pos
+pub running-standing : (n cap : ℕ) (s : List ℕ) (from : ℕ) (o₀ : List ℕ) (y : StoredState) (q l o : List ℕ)
+    (at pos : ℕ) → Running n cap s from o₀ y q l o at pos
     → at < 999999999 → Standing maxIssues (y .world) q l
 running-standing n cap s from o₀ y q l o at pos r h =
     record { n = n; cap = cap; k = r .steps; world = r .yard .world; more = omega (arith, r .few); holds = r .stands .world }

@@ -1,6 +1,6 @@
--- A small load, computed by the checker on the definition: n 2, seed 1, 14 draws. Under each cap they are four offers while nothing is issued, a delivery of
--- nothing among them, a send from 0 to 1, its offer and two more of it (15), a send from 1 to 0, a delivery of nothing at 0, the delivery of the first frame at 1,
--- one more offer of it (14), and the offer of the second frame. Assumes nothing.
+-- A small load, computed by the checker on the definition: n 2, seed 1, 14 draws. Under each cap they are four offers while nothing is issued, with a
+-- delivery of nothing among them; a send from 0 to 1, its offer and two more of it (15); a send from 1 to 0; a delivery of nothing at 0; the delivery of the
+-- first frame at 1; one more offer of it (14); and the offer of the second frame. Assumes nothing.
 use Prim.Native.Nat.{ℕ}
 use mathlib.Core.List.{List, [], _∷_, _++_}
 use mathlib.Core.Path.{_≡_, refl}

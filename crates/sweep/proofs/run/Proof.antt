@@ -33,7 +33,8 @@ unfolding runCall
 returns-2 c =
     let r = c .before .before .put-refusal .ensures in
     let w = sym (c .before .before .before .before .before .is-wrong .ensures) ∙ c .before .before .before .before .if2 .taken in (
-      run-written _ _ _ (omega arith) _ (ap (λ (x : Request). printed (answered x)) (sym (c .before .before .before .before .before .before .parse .ensures)) ∙ ap printed (answered-refused _ w)) _ _ (r .1 .0 ∙ zero-add _) (r .1 .1),
+      run-written _ _ _ (omega arith) _ (ap (λ (x : Request). printed (answered x)) (sym (c .before .before .before .before .before .before .parse .ensures))
+          ∙ ap printed (answered-refused _ w)) _ _ (r .1 .0 ∙ zero-add _) (r .1 .1),
       omega (arith, r .0),
     )
 
@@ -63,8 +64,11 @@ returns-3 : tie.Need-returns-3
 unfolding runCall
 returns-3 c =
     let r = c .before .before .put-table .ensures in
-    let w = sym (c .before .before .before .before .before .before .before .before .is-wrong .ensures) ∙ c .before .before .before .before .before .before .before .if2 .left in (
-      run-written _ _ _ (omega arith) _ (ap (λ (x : Request). printed (answered x)) (sym (c .before .before .before .before .before .before .before .before .before .parse .ensures)) ∙ ap printed (answered-table _ _ _ _ (c .before .before .before .before .before .asked .given .1) w)) _ _ (r .1 .0) (r .1 .1),
+    let w = sym (c .before .before .before .before .before .before .before .before .is-wrong .ensures)
+    ∙ c .before .before .before .before .before .before .before .if2 .left in (
+      run-written _ _ _ (omega arith) _ (ap (λ (x : Request). printed (answered x)) (sym (c .before .before .before .before .before .before .before .before
+          .before .parse .ensures)) ∙ ap printed (answered-table _ _ _ _ (c .before .before .before .before .before .asked .given .1) w)) _ _ (r .1 .0)
+          (r .1 .1),
       r .0,
     )
 
@@ -75,7 +79,8 @@ returns-4 : tie.Need-returns-4
 unfolding runCall answered
 returns-4 c =
     let r = c .before .before .put-refusal2 .ensures in (
-      run-written _ _ _ (omega arith) _ (ap (λ (x : Request). printed (answered x)) (sym (c .before .before .before .before .before .before .before .before .parse .ensures) ∙ c .before .before .before .before .enum-told .given .1)) _ _ (r .1 .0 ∙ zero-add _) (r .1 .1),
+      run-written _ _ _ (omega arith) _ (ap (λ (x : Request). printed (answered x)) (sym (c .before .before .before .before .before .before .before .before
+          .parse .ensures) ∙ c .before .before .before .before .enum-told .given .1)) _ _ (r .1 .0 ∙ zero-add _) (r .1 .1),
       omega (arith, r .0),
     )
 

@@ -20,7 +20,8 @@ put-line-end-requires c κs =
     let a = c .before .before .before .args in simp length-set (omega (arith, length-row (a .letter) (a .values .now)))
 
 same-length : tie.Need-same-length
-same-length c = let a = c .before .before .before .before .before .before .args in c .before .before .put-line-end .kept .0 ∙ length-set (a .out .now) (a .at) (a .letter)
+same-length c = let a = c .before .before .before .before .before .before .args in c .before .before .put-line-end .kept .0 ∙ length-set (a .out .now)
+    (a .at) (a .letter)
 
 returns : tie.Need-returns
 unfolding put row

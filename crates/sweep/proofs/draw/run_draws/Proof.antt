@@ -57,8 +57,13 @@ loop-again c =
       omega (arith, more),
       s .kept .1 .1 .0 ∙ w .loop .inv .1,
       s .kept .1 .1 .1 .0 ∙ w .loop .inv .2,
-      λ n cap h. drawing-goes n cap _ _ _ _ _ _ _ _ (w .loop .inv .3 n cap h) (omega (arith, more)) _ _ _ _ _ _ (c .before .before .before .before .before .before .before .before .before .next .ensures) (c .before .counted .ensures)
-          (λ z k. s .ensures .2 n cap (w .loop .i) z (omega (arith, w .loop .inv .0, c .before .before .before .before .before .before .before .before .before .before .before .before .before .before .before .pre .1)) k),
+      λ n cap h. drawing-goes n cap _ _ _ _ _ _ _ _ (w .loop .inv .3 n cap h) (omega (arith, more)) _ _ _ _ _ _
+          (c .before .before .before .before .before .before .before .before .before .next .ensures) (c .before .counted .ensures)
+          (λ z k. s .ensures .2 n cap (w .loop .i) z (omega (
+            arith,
+            w .loop .inv .0,
+            c .before .before .before .before .before .before .before .before .before .before .before .before .before .before .before .pre .1,
+          )) k),
     )
 
 same-length : tie.Need-same-length Inv-loop μ-loop

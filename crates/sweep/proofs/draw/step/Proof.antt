@@ -50,7 +50,8 @@ returns c =
     let t = u .1 (x .n) (x .cap) (x .k) (x .world) _ (x .more) (x .holds) in (
       u .0,
       few-as _ _ (t .0) (send-few (x .world) (x .n) maxIssues _ _),
-      λ n cap k z short h. send-stored n cap k z _ _ _ h _ _ (c .before .before .before .before .before .before .before .step-of .ensures) _ _ (c .before .before .before .before .before .d .given .1) _ _ _ _
+      λ n cap k z short h. send-stored n cap k z _ _ _ h _ _ (c .before .before .before .before .before .before .before .step-of .ensures) _ _
+          (c .before .before .before .before .before .d .given .1) _ _ _ _
           (u .1 n cap k (z .world) _ short h),
     )
 
@@ -67,7 +68,8 @@ returns-2 c =
     let t = u .1 (x .n) (x .cap) (x .k) (x .world) (x .more) (x .holds) in (
       u .0,
       few-as _ _ (t .0) (offer-few (x .world) _),
-      λ n cap k z short h. offer-stored n cap k z _ _ _ h _ _ (c .before .before .before .before .before .before .before .before .step-of .ensures) _ (c .before .before .before .before .before .before .d2 .given .1) _ _ _ _
+      λ n cap k z short h. offer-stored n cap k z _ _ _ h _ _ (c .before .before .before .before .before .before .before .before .step-of .ensures) _
+          (c .before .before .before .before .before .before .d2 .given .1) _ _ _ _
           (u .1 n cap k (z .world) short h),
     )
 
@@ -84,7 +86,8 @@ returns-3 c =
     let t = u .1 (x .n) (x .cap) (x .k) (x .world) (x .more) (x .holds) in (
       u .0,
       few-as _ _ (t .0) (deliver-few (x .world) (x .n) maxIssues _),
-      λ n cap k z short h. deliver-stored n cap k z _ _ _ h _ _ (c .before .before .before .before .before .before .before .before .before .before .step-of .ensures) _ (c .before .before .before .before .before .before .before .before .d3 .given .1) _ _ _ _
+      λ n cap k z short h. deliver-stored n cap k z _ _ _ h _ _ (c .before .before .before .before .before .before .before .before .before .before .step-of
+          .ensures) _ (c .before .before .before .before .before .before .before .before .d3 .given .1) _ _ _ _
           (u .1 n cap k (z .world) short h),
     )
 
@@ -93,7 +96,8 @@ returns-4 c =
     let u = c .unchanged .ensures in (
       u .1,
       few-as _ _ (u .0) tt,
-      λ n cap k z short h. nothing-stored n cap k z _ _ _ h _ _ (c .before .before .before .step-of .ensures) (c .before .enum-told .given .1) _ _ (u .0) (u .2),
+      λ n cap k z short h. nothing-stored n cap k z _ _ _ h _ _ (c .before .before .before .step-of .ensures) (c .before .enum-told .given .1) _ _ (u .0)
+          (u .2),
     )
 
 pub step-spec : {M : Type 1} → statement M

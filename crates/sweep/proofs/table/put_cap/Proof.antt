@@ -35,7 +35,8 @@ same-length c = search needs
 returns : tie.Need-returns
 returns c =
     let r = c .before .before .put-numbers .ensures in
-    let z = shown _ _ _ _ _ _ (ap (numberRow (c .before .before .before .before .before .before .before .args .cap)) (sym (c .before .before .before .before .before .totals .ensures))) (r .0) (r .1) in
+    let z = shown _ _ _ _ _ _ (ap (numberRow (c .before .before .before .before .before .before .before .args .cap)) (sym
+    (c .before .before .before .before .before .totals .ensures))) (r .0) (r .1) in
     (omega (arith, z .0, most (c .before .before .before .before .before .before)), z)
 
 pub put-cap-spec : {M : Type 1} → statement M

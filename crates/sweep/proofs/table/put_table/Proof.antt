@@ -40,11 +40,25 @@ put-cap-requires : tie.Need-put-cap-requires Inv-loop μ-loop
 put-cap-requires c κs =
     let w = c .before .before .before .before .before in
     let a = c .before .before .before .before .before .before .before in
-    let m = last-most (a .args .n) (a .pre .1) in
-    (omega (arith, m, c .before .before .before .before .loop-test .taken), omega (arith, m, c .before .before .before .before .loop-test .taken, w .loop .inv .0, w .loop .inv .4 .most, a .pre .0, a .pre .3))
+    let m = last-most (a .args .n) (a .pre .1) in (
+      omega (arith, m, c .before .before .before .before .loop-test .taken),
+      omega (
+        arith,
+        m,
+        c .before .before .before .before .loop-test .taken,
+        w .loop .inv .0,
+        w .loop .inv .4 .most,
+        a .pre .0,
+        a .pre .3,
+      ),
+    )
 
 add-cap : tie.Need-add-cap Inv-loop μ-loop
-add-cap c = let a = c .before .before .before .before .before .before .before .before .before .before in omega (arith, last-most (a .args .n) (a .pre .1), c .before .before .before .before .before .before .before .loop-test .taken)
+add-cap c = let a = c .before .before .before .before .before .before .before .before .before .before in omega (
+  arith,
+  last-most (a .args .n) (a .pre .1),
+  c .before .before .before .before .before .before .before .loop-test .taken,
+)
 
 loop-less : tie.Need-loop-less Inv-loop μ-loop
 loop-less c = omega (arith, c .before .before .before .before .before .before .before .loop-test .taken)
@@ -58,7 +72,8 @@ loop-again c =
       omega (arith, w .loop .inv .1),
       omega (arith, more),
       c .before .before .before .before .before .run-cap .kept .1 .1 .1 .1 .0 ∙ w .loop .inv .3,
-      listing-goes _ _ _ _ _ _ _ _ (w .loop .inv .4) (omega (arith, more)) _ (ap (λ (t : Counters). numberRow (w .loop .cap) (totals t)) (c .before .before .before .before .before .run-cap .ensures)) _ _
+      listing-goes _ _ _ _ _ _ _ _ (w .loop .inv .4) (omega (arith, more)) _ (ap (λ (t : Counters). numberRow (w .loop .cap) (totals t))
+          (c .before .before .before .before .before .run-cap .ensures)) _ _
           (r .0) (r .1 .0) (r .1 .1),
     )
 

@@ -177,8 +177,19 @@ returns-3 c =
     let u = c .unchanged3 .ensures in (
       u .1,
       λ n cap k v short h. as-stored n cap _ (k + 1) _ _ _ _ _ _ _ _ (u .0) (u .2) (deliver-refused n cap _ k v _ _ _ h short _
-          (omega (arith, h .nodes, c .before .before .before .before .before .before .before .before .before .before .before .before .before .before .if1 .left)) (omega (arith, h .nodes, h .issued, c .before .before .before .before .before .before .before .before .before .before .before .before .before .if2 .left)) _ refl _
-          (wide (c .before .before .before .before .before .before .before .before .before .before .before .before .before .before .before .before .before .args .at)) _ _ _ _ (c .before .before .before .before .before .before .before .before .deliver .ensures) (search needs) _ (c .before .before .answer .given .1)),
+          (omega (
+            arith,
+            h .nodes,
+            c .before .before .before .before .before .before .before .before .before .before .before .before .before .before .if1 .left,
+          )) (omega (
+            arith,
+            h .nodes,
+            h .issued,
+            c .before .before .before .before .before .before .before .before .before .before .before .before .before .if2 .left,
+          )) _ refl _
+          (wide (c .before .before .before .before .before .before .before .before .before .before .before .before .before .before .before .before .before
+          .args .at)) _ _ _ _ (c .before .before .before .before .before .before .before .before .deliver .ensures) (search needs) _
+          (c .before .before .answer .given .1)),
     )
 
 same-length-2 : tie.Need-same-length-2
@@ -190,8 +201,19 @@ returns-4 c =
     let u = c .unchanged4 .ensures in (
       u .1,
       λ n cap k v short h. as-stored n cap _ (k + 1) _ _ _ _ _ _ _ _ (u .0) (u .2) (deliver-nothing n cap _ k v _ _ _ h short _
-          (omega (arith, h .nodes, c .before .before .before .before .before .before .before .before .before .before .before .before .before .before .if1 .left)) (omega (arith, h .nodes, h .issued, c .before .before .before .before .before .before .before .before .before .before .before .before .before .if2 .left)) _ refl _
-          (wide (c .before .before .before .before .before .before .before .before .before .before .before .before .before .before .before .before .before .args .at)) _ _ _ _ (c .before .before .before .before .before .before .before .before .deliver .ensures) (search needs) _ (c .before .before .answer2 .given .1)),
+          (omega (
+            arith,
+            h .nodes,
+            c .before .before .before .before .before .before .before .before .before .before .before .before .before .before .if1 .left,
+          )) (omega (
+            arith,
+            h .nodes,
+            h .issued,
+            c .before .before .before .before .before .before .before .before .before .before .before .before .before .if2 .left,
+          )) _ refl _
+          (wide (c .before .before .before .before .before .before .before .before .before .before .before .before .before .before .before .before .before
+          .args .at)) _ _ _ _ (c .before .before .before .before .before .before .before .before .deliver .ensures) (search needs) _
+          (c .before .before .answer2 .given .1)),
     )
 
 same-length-3 : tie.Need-same-length-3
@@ -204,11 +226,33 @@ returns-5 : tie.Need-returns-5
 unfolding zeros
 returns-5 c =
     let e = c .before .before .store .ensures in
-    let x = c .before .before .before .before .before .before .before .before .before .before .before .before .before .before .before .before .before .before .before .before .before .before .before .pre .1 in (
-      omega (arith, e .1, x .holds .nodes, x .holds .few, c .before .before .before .before .before .before .before .before .before .before .before .before .before .before .before .before .before .before .before .before .if1 .left),
+    let x = c .before .before .before .before .before .before .before .before .before .before .before .before .before .before .before .before .before .before
+    .before .before .before .before .before .pre .1 in (
+      omega (
+        arith,
+        e .1,
+        x .holds .nodes,
+        x .holds .few,
+        c .before .before .before .before .before .before .before .before .before .before .before .before
+            .before .before .before .before .before .before .before .before .if1 .left,
+      ),
       λ n cap k v short h. as-stored n cap _ (k + 1) _ _ _ _ _ _ _ _ (e .0) (e .2) (deliver-frame n cap _ k v _ _ _ h short _
-          (omega (arith, h .nodes, c .before .before .before .before .before .before .before .before .before .before .before .before .before .before .before .before .before .before .before .before .if1 .left)) (omega (arith, h .nodes, h .issued, c .before .before .before .before .before .before .before .before .before .before .before .before .before .before .before .before .before .before .before .if2 .left)) _ refl _
-          (wide (c .before .before .before .before .before .before .before .before .before .before .before .before .before .before .before .before .before .before .before .before .before .before .before .args .at)) _ _ _ _ (c .before .before .before .before .before .before .before .before .before .before .before .before .before .before .deliver .ensures) (search needs) _ (c .before .before .before .before .before .before .before .before .answer3 .given .1) _
+          (omega (
+            arith,
+            h .nodes,
+            c .before .before .before .before .before .before .before .before .before .before .before .before .before .before .before
+                .before .before .before .before .before .if1 .left,
+          )) (omega (
+            arith,
+            h .nodes,
+            h .issued,
+            c .before .before .before .before .before .before
+                .before .before .before .before .before .before .before .before .before .before .before .before .before .if2 .left,
+          )) _ refl _
+          (wide (c .before .before .before .before .before .before .before .before .before .before .before .before .before .before .before .before .before
+          .before .before .before .before .before .before .args .at)) _ _ _ _ (c .before .before .before .before .before .before .before .before .before
+          .before .before .before .before .before .deliver .ensures) (search needs) _ (c .before .before .before .before .before .before .before .before
+          .answer3 .given .1) _
           (c .before .before .before .before .before .find .ensures (frames (v .log)) (h .begins)
           (omega (arith, h .issued, length-map (v .log) (λ (g : Issue). g .frame)))) _ _ refl (e .3)),
     )

@@ -169,7 +169,11 @@ returns-3 c =
       u .1,
       λ n cap k v short h. as-stored n cap _ (k + 1) _ _ _ _ _ _ _ _ (u .0) (u .2) (offer-refused n cap _ k v _ _ _ h short _
           (c .before .before .before .before .before .before .before .before .before .before .before .before .before .before .before .before .if1 .left)
-          (omega (arith, h .issued, c .before .before .before .before .before .before .before .before .before .before .before .before .before .before .before .if2 .left)) _ (heads (c .before .before .before .before .before .before .before .before .before .before .before) n cap k v h) _ refl _
+          (omega (
+            arith,
+            h .issued,
+            c .before .before .before .before .before .before .before .before .before .before .before .before .before .before .before .if2 .left,
+          )) _ (heads (c .before .before .before .before .before .before .before .before .before .before .before) n cap k v h) _ refl _
           (part (c .before .before .before .before .before .before .before .before .before .before .before .before .before) n cap k v h .same) _
           (wide (c .before .before .before .before .before .before .before .before .before .before .before .read .result .to)) _ _
           (c .before .before .before .before .before .before .offer .ensures) (search needs) _ (c .before .before .answer .given .1)),
@@ -181,7 +185,8 @@ same-length-2 c = search needs
 returns-4 : tie.Need-returns-4
 returns-4 c =
     let b = below (c .before .before .before .before .before .before .before .before .before .before .before) in
-    let x = c .before .before .before .before .before .before .before .before .before .before .before .before .before .before .before .before .before .before .before .pre in (
+    let x = c .before .before .before .before .before .before .before .before .before .before .before .before .before .before .before .before .before .before
+    .before .pre in (
       omega (arith, x .holds .nodes, x .holds .few),
       λ n cap k v short h. offer-held n cap _ k v _ _ _ h short _
           (c .before .before .before .before .before .before .before .before .before .before .before .before .before .before .before .before .if1 .left)
