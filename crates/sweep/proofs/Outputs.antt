@@ -1,20 +1,20 @@
 -- What is printed for a request by its test, and that a table is never taken for a refusal. Assumes nothing.
-use Prim.Native.Nat.{ℕ, suc, _+_, _-_, _*_, _≤_, _<_}
-use mathlib.Core.Bool.{Bool, false, true}
-use mathlib.Core.List.{List, _∷_, _++_}
+use Prim.Native.Nat.{ℕ, suc, _+_, _-_, _*_, _≤_}
+use mathlib.Core.Bool.{false, true}
+use mathlib.Core.List.{List}
 use mathlib.Core.Path.{_≡_, ap, refl, sym, _∙_}
 use native.Mathlib.Decide.{decLe}
 use native.Mathlib.Omega.{arith}
-use lib.ListN.{length, getD, take, length-take}
+use lib.ListN.{length, getD, take}
 use lib.Seq.{take-all, length-take-le}
-use Rattle.text.specs.Print.{decimal, lineEnd, numberRow, refusalRow, row}
+use Rattle.text.specs.Print.{numberRow, refusalRow, row}
 use Rattle.text.proofs.Print.{decimal-one}
-use Rattle.request.proofs.Laws.{InRange, in-range, long-refused, other-refused}
+use Rattle.request.proofs.Laws.{long-refused}
 use Rattle.request.specs.Refusal18.{refused18, wrong}
 use Rattle.request.specs.Request.{request}
 use Rattle.request.specs.declared.Request.{Request}
 use Rattle.request.specs.declared.Request.the-variants as request
-use Rattle.sweep.specs.Load.{answered, capRow, capRows, output, printed, refused, table, tabled}
+use Rattle.sweep.specs.Load.{answered, capRows, output, printed, refused, table, tabled}
 use Rattle.sweep.specs.Run.{FirstBytes}
 use Rattle.sweep.proofs.Tables.{last-least}
 

@@ -1,6 +1,6 @@
 -- Laws of the table: how long its lines are, and the lines of the caps one after the other. Assumes nothing.
 use Prim.Native.Nat.{ℕ, suc, _+_, _-_, _*_, _≤_, _<_}
-use mathlib.Core.List.{List, [], _∷_, _++_}
+use mathlib.Core.List.{List, [], _++_}
 use mathlib.Core.Path.{_≡_, refl, sym, ap, _∙_}
 use native.Mathlib.Nat.{mul-le-mul, zero-add}
 use native.Mathlib.Omega.{arith}
@@ -11,7 +11,7 @@ use Rattle.text.specs.Print.{numberRow}
 use Rattle.text.proofs.Print.{decimal-few, five-numbers, length-numbers}
 use Rattle.counters.specs.Counted.{totals}
 use Rattle.counters.specs.declared.Counters.{Counters}
-use Rattle.sweep.specs.Load.{capRow, capRows, table}
+use Rattle.sweep.specs.Load.{capRow, capRows}
 
 -- a cap of two digits and five numbers of 32 bits
 pub row-most : (cap : ℕ) (t : Counters) → cap < 100 → t .user < 4294967296 → t .extras < 4294967296 → t .delivered < 4294967296 → t .delays < 4294967296

@@ -2,7 +2,6 @@
 ghost use mathlib.Core.Path.{_≡_};
 ghost use Prim.Native.Nat.{_+_, _-_, _*_, _≤_, _<_};
 ghost use lib.ListN.{length, take, drop};
-ghost use Rattle.wire.specs.Bytes.{put};
 ghost use Rattle.text.specs.Before.{before};
 ghost use Rattle.text.specs.Fields.{isDigit, value};
 ghost use Rattle.text.specs.Print.{decimal, lineEnd, row, numberRow, refusalRow};

@@ -1,7 +1,7 @@
 -- There is room for five numbers. Assumes nothing.
 use Prim.Native.Nat.{_≤_}
 use native.Mathlib.Omega.{arith}
-use mathlib.Core.Path.{_∙_, ap, sym}
+use mathlib.Core.Path.{ap, sym}
 use lib.ListN.{length}
 use Rattle.counters.specs.Counted.{totals}
 use Rattle.text.specs.Print.{row}

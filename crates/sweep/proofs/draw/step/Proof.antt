@@ -5,13 +5,6 @@ use Rattle.sweep.proofs.Drawing.{deliver-stored, nothing-stored, offer-
 use borrow.Author.Needs.{needs}
 use Rattle.sweep.proofs.draw.step.Statement.{statement}
 use Rattle.sweep.proofs.draw.step.Tie as tie
-use Rattle.sweep.proofs.draw.step.Reads as reads
-use Rattle.sweep.proofs.draw.step.Lts as lts
-use Rattle.draws.proofs.step_of.Reads as step-of-reads
-use Rattle.world.proofs.deliver.deliver.Reads as deliver-reads
-use Rattle.world.proofs.offer.offer.Reads as offer-reads
-use Rattle.world.proofs.send.send.Reads as send-reads
-use Rattle.world.proofs.store.unchanged.Reads as unchanged-reads
 
 step-of-requires : tie.Need-step-of-requires
 step-of-requires c κs = search needs

@@ -1,5 +1,5 @@
 -- Cap by cap: one run for every cap in range, its line, and the lines that are left. Assumes nothing.
-use Prim.Native.Nat.{_+_, _-_, _*_, _≤_}
+use Prim.Native.Nat.{_+_, _-_, _≤_}
 use mathlib.Core.Path.{_≡_, _∙_, ap, refl}
 use native.Mathlib.Omega.{arith}
 use lib.ListN.{length}

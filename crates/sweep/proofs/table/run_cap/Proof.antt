@@ -1,9 +1,7 @@
 -- The start is stored, and the draws follow. Assumes nothing.
 use mathlib.Core.Path.{refl}
 use native.Mathlib.Omega.{arith}
-use Rattle.causality.specs.Demand3.{start}
 use Rattle.counting.proofs.Lists.{stored-start}
-use Rattle.world.specs.Stored.{Holds}
 use Rattle.sweep.specs.Load.{maxIssues}
 use borrow.Author.Needs.{needs}
 use Rattle.sweep.proofs.table.run_cap.Statement.{statement}
