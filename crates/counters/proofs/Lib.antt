@@ -1,5 +1,6 @@
--- The walks that the proofs of this crate share, and an example.
+-- The walks that the proofs of this crate share, what the extras share means, and examples.
 pub mod Shapes
 pub mod Loan
 pub mod Value
+pub mod ShareMeans
 pub mod Example

@@ -1,17 +1,25 @@
 -- The counters (document 01: the tally), and what each step of the yard does to them. A count stays at 4,294,967,295 once it is there.
-use Prim.Native.Nat.{ℕ, _+_, _*_, _/_, min}
+use Prim.Native.Nat.{ℕ, _+_, _*_, _/_, _%_, min}
 use mathlib.Core.Bool.{cond}
 use mathlib.Core.List.{List, [], _∷_}
-use lib.Dec.{eqb}
+use lib.Dec.{eqb, ltb}
 use Rattle.counters.specs.declared.Counters.{Counters}
 
 -- the smaller of the number and the largest number of 32 bits
 unfoldable pub upTo32 : ℕ → ℕ
 upTo32 x = min x 4294967295
 
--- extras per hundred user frames, rounded down; 0 without user frames
+-- of the neighbours k and k + 1 the even one
+abbrev pub evenOf : ℕ → ℕ
+evenOf k = k + k % 2
+
+-- a / b rounded to the nearest whole number, an exact half to its even neighbour: twice the rest is less than b, b, or more; b is not 0
+abbrev pub nearest : ℕ → ℕ → ℕ
+nearest a b = cond (ltb (2 * (a % b)) b) (a / b) (cond (eqb (2 * (a % b)) b) (evenOf (a / b)) (a / b + 1))
+
+-- extras per hundred user frames, rounded to the nearest whole number, an exact half to its even neighbour; 0 without user frames
 unfoldable pub share : ℕ → ℕ → ℕ
-share extras user = cond (eqb user 0) 0 (upTo32 (extras * 100 / user))
+share extras user = cond (eqb user 0) 0 (upTo32 (nearest (extras * 100) user))
 
 -- the counters before the first step
 unfoldable pub noCounters : Counters

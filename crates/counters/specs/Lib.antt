@@ -1,2 +1,3 @@
--- To believe, for the yard: how each step changes the counters.
+-- To believe, for the yard and the load, all: Counted, how each step changes the counters, and ShareMeans, what the extras share means.
 pub mod Counted
+pub mod ShareMeans

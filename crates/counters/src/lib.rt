@@ -30,14 +30,22 @@ fn plus(a: u32, b: u32) -> u32
     up_to_32(a as u64 + b as u64)
 }
 
-/// Extra frames per hundred user frames, rounded down; 0 without user frames.
+/// Extra frames per hundred user frames, rounded to the nearest whole number, an exact half to its even neighbour; 0 without user frames.
 pub fn share(extras: u32, user: u32) -> u32
     ensures { λ r. ⌜ r ≡ share extras user ⌝ }
 {
     if user == 0 {
         return 0;
     }
-    up_to_32(extras as u64 * 100 / (user as u64))
+    let hundredfold = extras as u64 * 100;
+    let below = hundredfold / (user as u64);
+    let rest = hundredfold % (user as u64);
+    // past the half, or at it where the number below is odd
+    if 2 * rest + below % 2 > user as u64 {
+        up_to_32(below + 1)
+    } else {
+        up_to_32(below)
+    }
 }
 
 /// The counters before the first step.

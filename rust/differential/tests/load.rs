@@ -1,5 +1,5 @@
 //! The compiled load and the linked one beside the reference's: generated lines, valid and damaged, loads that come to
-//! the end of their issues, and the stored lines.
+//! the end of their issues, loads with halves in their shares, and the stored lines.
 
 use differential::printed::linked_differs;
 use differential::program::{compiled, complaint, output, Programs};
@@ -7,7 +7,7 @@ use differential::run::compare_inputs;
 use differential::stored;
 use generate::Generator;
 use linked::load::OUTPUT;
-use reference::boundary::CROWDED_LOADS;
+use reference::boundary::{CROWDED_LOADS, HALF_LOADS};
 
 /// Seeds of the generated lines.
 const SEEDS: [u64; 3] = [601, 602, 603];
@@ -24,15 +24,22 @@ fn generated_lines_valid_and_damaged() {
     assert!((850..1_150).contains(&damaged), "{damaged} of {} lines are damaged", tally.loads);
 }
 
+/// Holds the compiled load and the linked one against the reference on one line.
+fn compare(line: &str) {
+    let input = line.as_bytes();
+    let printed = reference::load(input);
+    assert_eq!(output(&compiled("load"), input).expect("the load runs"), printed, "{line}");
+    assert_eq!(linked_differs(input, OUTPUT, &printed), None, "{line}");
+}
+
 #[test]
 fn loads_that_come_to_the_end_of_their_issues() {
-    let program = compiled("load");
-    for seed in CROWDED_LOADS {
-        let input = format!("4 {seed} 400\n").into_bytes();
-        let printed = reference::load(&input);
-        assert_eq!(output(&program, &input).expect("the load runs"), printed, "{seed}");
-        assert_eq!(linked_differs(&input, OUTPUT, &printed), None, "{seed}");
-    }
+    CROWDED_LOADS.into_iter().for_each(|seed| compare(&format!("4 {seed} 400\n")));
+}
+
+#[test]
+fn loads_with_halves_in_their_shares() {
+    HALF_LOADS.into_iter().for_each(compare);
 }
 
 #[test]

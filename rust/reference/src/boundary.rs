@@ -1,6 +1,6 @@
 //! Lists that reach the largest frame, send and delivery, and a full shelf. They run on anything that takes a list's
 //! steps, so that one implementation can be tested by them and two can be compared. And loads that come to the end of
-//! their issues.
+//! their issues, or have halves in their shares.
 
 use crate::list::List;
 use crate::node::Delivery;
@@ -10,6 +10,10 @@ use std::ops::RangeInclusive;
 /// Seeds of loads with 4 nodes and 400 draws that come to the end of their 180 issues under cap 4, which very few do: 177
 /// are issued in the end from the first two, 178 from the others.
 pub const CROWDED_LOADS: [u32; 4] = [4137459756, 678678812, 3541979015, 12640737];
+
+/// Lines of loads in whose tables a share is an exact half. In each of the first three one goes up and one goes down: 3
+/// and 1 extras in 8 user frames, 9 and 3 in 24, 3 and 1 in 40. In the last, 1 in 8 goes down.
+pub const HALF_LOADS: [&str; 4] = ["4 1923450 64\n", "4 24 120\n", "4 1 125\n", "3 41 48\n"];
 
 /// What takes a list's steps.
 pub trait Steps {

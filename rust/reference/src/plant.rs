@@ -2,13 +2,14 @@
 
 use crate::list::List;
 use crate::{DeliverAnswer, OfferAnswer, Refusal, SendAnswer};
+use std::cmp::Ordering;
 use std::fmt::{self, Display, Formatter};
 use std::ops::RangeInclusive;
 
 /// Nodes that a plant may have.
 pub const NODES: RangeInclusive<usize> = 2..=4;
 
-/// User frames, extras, frames delivered, delays (delivers that answer none), extras per hundred user frames.
+/// User frames, extras, frames delivered, delays (delivers that answer none), and the extras' [`share`].
 #[derive(Clone, Copy, Debug, Default, PartialEq, Eq)]
 pub struct Tally {
     pub users: usize,
@@ -19,11 +20,11 @@ pub struct Tally {
 }
 
 impl Tally {
-    /// Counts issued frames; the share is rounded down, and 0 without user frames.
+    /// Counts issued frames.
     fn count_issued(&mut self, users: usize, extras: usize) {
         self.users += users;
         self.extras += extras;
-        self.share = (self.extras * 100).checked_div(self.users).unwrap_or(0);
+        self.share = share(self.extras, self.users);
     }
 }
 
@@ -32,6 +33,19 @@ impl Display for Tally {
     fn fmt(&self, f: &mut Formatter<'_>) -> fmt::Result {
         let Tally { users, extras, delivered, delays, share } = self;
         write!(f, "{users} {extras} {delivered} {delays} {share}")
+    }
+}
+
+/// Extras per hundred user frames to the nearest whole, exact halves to the even neighbour, and 0 without user frames.
+pub fn share(extras: usize, users: usize) -> usize {
+    if users == 0 {
+        return 0;
+    }
+    let (below, rest) = (100 * extras / users, 100 * extras % users);
+    match (2 * rest).cmp(&users) {
+        Ordering::Less => below,
+        Ordering::Equal => below + below % 2,
+        Ordering::Greater => below + 1,
     }
 }
 

@@ -1,6 +1,9 @@
 //! The load's numbers, its input's edges, and runs held against hand-made steps and against the yard.
 
-use reference::boundary::CROWDED_LOADS;
+mod common;
+
+use common::is_share;
+use reference::boundary::{CROWDED_LOADS, HALF_LOADS};
 use reference::xorshift::Xorshift;
 use reference::{load, yard};
 
@@ -191,6 +194,24 @@ fn the_yard_counts_the_same_for_the_same_steps() {
     assert!(extras > 20, "{extras} extras");
 }
 
+#[test]
+fn halves_of_the_share_go_to_the_even_neighbour() {
+    let tables: [&[&str]; 4] = [
+        // 37.5 and 12.5
+        &["4 8 3 9 10 38", "5 8 1 7 12 12", "6 8 0 7 12 0"],
+        // 37.5, 12.5 and 4.2
+        &["4 24 9 18 15 38", "5 24 3 17 16 12", "6 24 1 17 16 4"],
+        // 7.5 and 2.5
+        &["4 40 3 11 15 8", "5 40 1 11 15 2", "6 40 0 12 14 0"],
+        // 12.5
+        &["3 8 1 4 7 12", "4 8 0 4 7 0"],
+    ];
+    for (input, rows) in HALF_LOADS.into_iter().zip(tables) {
+        let output = printed(input);
+        assert!(output.starts_with(&(rows.join("\n") + "\n")), "{input}{output}");
+    }
+}
+
 /// How many of a load's 400 draws send or deliver.
 fn sends_and_delivers(seed: u32) -> usize {
     Xorshift::new(seed).take(400).filter(|draw| matches!(draw % 4, 0 | 3)).count()
@@ -206,6 +227,7 @@ fn the_end_of_the_issues() {
             panic!("{output}");
         };
         let idle = sends_and_delivers(seed) - users - delivered - delays;
-        assert_eq!((cap, users + extras, idle, share), (4, end.0, end.1, 100 * extras / users), "{seed}: {output}");
+        assert_eq!((cap, users + extras, idle), (4, end.0, end.1), "{seed}: {output}");
+        assert!(is_share(extras, users, share), "{seed}: {output}");
     }
 }

@@ -115,5 +115,20 @@ fn an_extra_is_printed_counted_and_delivered() {
     let lines = "3 3\nS 0 1\nS 0 2\nS 1 2\nS 1 0\nS 2 1\nS 2 0\nA 4\nD 0\nA 6\nD 0\nA 1\nA 5\nA 7\nD 1\nD 1\nD 1\n";
     let issued = "S 1 0 1 0\nS 2 0 2 1\nS 3 1 2 0\nS 4 1 0 1\nS 5 2 1 0\nS 6 2 0 1\n";
     let brought = "A 4 1\nD 0 4 1\nA 6 1\nD 0 6 1\nX 7 0 1 2\nA 1 1\nA 5 2\nA 7 3\nD 1 1 1\nD 1 5 1\nD 1 7 1\n";
-    assert_eq!(printed(lines), format!("{issued}{brought}T 6 1 5 0 16\n"));
+    assert_eq!(printed(lines), format!("{issued}{brought}T 6 1 5 0 17\n"));
+}
+
+#[test]
+fn halves_of_the_share_go_to_the_even_neighbour() {
+    // Node 0 keeps (0,1), (0,2) and (0,3). Each frame from 1 brings (1,2) and (1,3) to it: five entries stand, so column
+    // 2 goes as an extra.
+    let sends = "4 4\nS 1 2\nS 1 3\nS 1 0\nS 1 0\nS 1 0\nS 0 1\nS 0 2\nS 0 3\n";
+    let sent = "S 1 1 2 0\nS 2 1 3 1\nS 3 1 0 2\nS 4 1 0 3\nS 5 1 0 3\nS 6 0 1 0\nS 7 0 2 1\nS 8 0 3 2\n";
+    let lines = ["A 3\nD 0\n", "A 4\nD 0\n", "A 5\nD 0\n"];
+    let brought = ["A 3 1\nD 0 3 1\nX 9 0 2 2\n", "A 4 1\nD 0 4 1\nX 10 0 2 2\n", "A 5 1\nD 0 5 1\nX 11 0 2 2\n"];
+    // 0, 12.5, 25 and 37.5
+    for (count, tally) in ["8 0 0 0 0", "8 1 1 0 12", "8 2 2 0 25", "8 3 3 0 38"].into_iter().enumerate() {
+        let output = printed(format!("{sends}{}", lines[..count].concat()));
+        assert_eq!(output, format!("{sent}{}T {tally}\n", brought[..count].concat()));
+    }
 }

@@ -91,3 +91,10 @@ pub fn holding(mut record: Record, frames: &[Vec<u8>]) -> (Record, Vec<u8>) {
     record.held = frames.len() as u8;
     (record, shelf)
 }
+
+/// Whether r is the extras' share: 200 × extras and 2 × r × users differ by at most users, and if by exactly users, r is
+/// even.
+pub fn is_share(extras: usize, users: usize, r: usize) -> bool {
+    let away = (200 * extras).abs_diff(2 * r * users);
+    away < users || away == users && r.is_multiple_of(2)
+}

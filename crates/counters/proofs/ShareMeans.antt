@@ -1,0 +1,105 @@
+-- What the extras share means: the number that the definition gives is nearest, and there is one nearest number. Assumes nothing.
+use Prim.Native.Nat.{ℕ, suc, zero, _+_, _-_, _*_, _/_, _%_, _<_, _≤_}
+use mathlib.Core.Bool.{Bool, cond, false, true}
+use mathlib.Core.Path.{_≡_, _∙_, ap, refl, subst}
+use native.Mathlib.Nat.{le-mul-of-pos-right, mod-add-div, mod-lt}
+use native.Mathlib.Omega.{arith}
+use borrow.Author.Tests.{eqb-false, eqb-true, ltb-false, ltb-true, ne-eqb}
+use lib.Dec.{eqb, ltb}
+use Rattle.counters.specs.Counted.{evenOf, nearest, share, upTo32}
+use Rattle.counters.specs.ShareMeans.{Rounded, ShareMeans}
+
+-- the choice of `nearest` by its cases: t is less than b, b, or more
+by-half : (P : ℕ → Type 0) (t b x y z : ℕ) → (t < b → P x) → (t ≡ b → P y) → (b < t → P z) → P (cond (ltb t b) x (cond (eqb t b) y z))
+by-half P t b x y z under at over = go (ltb t b) refl (eqb t b) refl
+  where
+    go : (d : Bool) → ltb t b ≡ d → (e : Bool) → eqb t b ≡ e → P (cond d x (cond e y z))
+    go true d e f = under (ltb-true t b d)
+    go false d true f = at (eqb-true t b f)
+    go false d false f = over (omega (arith, ltb-false t b d, eqb-false t b f))
+
+-- the lower neighbour is nearest up to the half, and at the half where it is even; t is what is left over
+pub down : (e u q t : ℕ) → t + u * q ≡ e * 100 → 2 * t ≤ u → (2 * t ≡ u → q % 2 ≡ 0) → Rounded e u q
+down e u q t parts low even = record { near = omega arith; even = λ h. even (omega arith) }
+
+-- the upper neighbour from the half on, and at the half where it is even
+pub up : (e u q t : ℕ) → t + u * q ≡ e * 100 → t < u → u ≤ 2 * t → (2 * t ≡ u → (q + 1) % 2 ≡ 0) → Rounded e u (q + 1)
+up e u q t parts inside high even = record { near = omega arith; even = λ h. even (omega arith) }
+
+-- at the half itself the even neighbour is nearest
+half : (e u q t : ℕ) → t + u * q ≡ e * 100 → t < u → 2 * t ≡ u → Rounded e u (evenOf q)
+half e u q t parts inside h = go (q % 2) refl
+  where
+    go : (k : ℕ) → q % 2 ≡ k → Rounded e u (q + k)
+    go zero k = subst (Rounded e u) (omega arith) (down e u q t parts (omega arith) (λ z. k))
+    go (suc zero) k = up e u q t parts inside (omega arith) (λ z. omega arith)
+    go (suc (suc j)) k = absurd (omega arith)
+
+-- the number that the definition computes is nearest
+pub nearest-is : (e u : ℕ) → 0 < u → Rounded e u (nearest (e * 100) u)
+nearest-is e u some =
+    by-half (Rounded e u) (2 * t) u q (evenOf q) (q + 1) (λ h. down e u q t parts (omega arith) (λ z. absurd (omega arith)))
+    (half e u q t parts inside)
+    (λ h. up e u q t parts inside (omega arith) (λ z. absurd (omega arith)))
+  where
+    q : ℕ
+    q = e * 100 / u
+
+    t : ℕ
+    t = e * 100 % u
+
+    parts : t + u * q ≡ e * 100
+    parts = mod-add-div (e * 100) u
+
+    inside : t < u
+    inside = mod-lt (e * 100) some
+
+-- of two different numbers not both are nearest: they would be neighbours, both at the half and both even
+none-above : (e u r d : ℕ) → 0 < u → Rounded e u r → Rounded e u (suc (r + d)) → ⊥
+none-above e u r d some a b =
+    let none : d ≡ 0 = omega (arith, a .near, b .near, le-mul-of-pos-right d some) in
+    omega (arith, a .even (omega (arith, none, a .near, b .near)), b .even (omega (arith, none, a .near, b .near)), none)
+
+pub only : (e u r s : ℕ) → 0 < u → Rounded e u r → Rounded e u s → r ≡ s
+only e u r s some a b = go (ltb r s) refl (ltb s r) refl
+  where
+    go : (c : Bool) → ltb r s ≡ c → (d : Bool) → ltb s r ≡ d → r ≡ s
+    go true c d f = absurd (none-above e u r (s - suc r) some a (subst (Rounded e u) (omega (arith, ltb-true r s c)) b))
+    go false c true f = absurd (none-above e u s (r - suc s) some b (subst (Rounded e u) (omega (arith, ltb-true s r f)) a))
+    go false c false f = omega (arith, ltb-false r s c, ltb-false s r f)
+
+-- with user frames the share is the nearest number, as far as 32 bits go
+pub share-is : (e u : ℕ) → 0 < u → share e u ≡ upTo32 (nearest (e * 100) u)
+unfolding share
+share-is e u some = rw (ne-eqb u 0 (λ h. omega (arith, h)))
+
+-- so the share is whichever number is shown to be nearest
+pub share-by : (e u r : ℕ) → 0 < u → Rounded e u r → share e u ≡ upTo32 r
+share-by e u r some h = share-is e u some ∙ ap upTo32 (only e u (nearest (e * 100) u) r some (nearest-is e u some) h)
+
+itself : (e u : ℕ) → 0 < u → share e u < 4294967295 → Rounded e u (share e u)
+unfolding upTo32
+itself e u some h = subst (Rounded e u) (omega (arith, share-is e u some)) (nearest-is e u some)
+
+none : (e : ℕ) → share e 0 ≡ 0
+unfolding share
+none e = refl
+
+one-in-eight : share 1 8 ≡ 12
+unfolding share upTo32
+one-in-eight = refl
+
+three-in-eight : share 3 8 ≡ 38
+unfolding share upTo32
+three-in-eight = refl
+
+pub share-means : ShareMeans
+share-means =
+    record {
+      none = none;
+      some = λ e u some. (nearest (e * 100) u, nearest-is e u some, share-is e u some);
+      only = only;
+      itself = itself;
+      oneInEight = one-in-eight;
+      threeInEight = three-in-eight;
+    }

@@ -1,0 +1,26 @@
+-- What the extras share means, said without computing it (document 02, (ii)): the nearest whole number, of two equally near ones the even one.
+use Prim.Native.Nat.{ℕ, _+_, _-_, _*_, _%_, _<_, _≤_}
+use mathlib.Core.Path.{_≡_}
+use Rattle.counters.specs.Counted.{share, upTo32}
+
+-- by how much two numbers differ
+abbrev pub apart : ℕ → ℕ → ℕ
+apart x y = (x - y) + (y - x)
+
+-- r is extras per hundred user frames, rounded: 200 × extras and 2 × r × user differ by at most user, and where they differ by exactly user, r is even
+pub record Rounded (extras user r : ℕ) : Type 0 where
+  pub near : apart (200 * extras) (2 * r * user) ≤ user
+  pub even : apart (200 * extras) (2 * r * user) ≡ user → r % 2 ≡ 0
+
+-- none: without user frames the share is 0
+-- some: with user frames it is such an r, for which the largest number of 32 bits stands where r is larger
+-- only: there is one such r and no other
+-- itself: so a share below the largest number of 32 bits is such an r itself
+-- oneInEight, threeInEight: the request's examples, 12.5 and 37.5
+pub record ShareMeans : Type 0 where
+  pub none : (extras : ℕ) → share extras 0 ≡ 0
+  pub some : (extras user : ℕ) → 0 < user → (r : ℕ) × Rounded extras user r × share extras user ≡ upTo32 r
+  pub only : (extras user r s : ℕ) → 0 < user → Rounded extras user r → Rounded extras user s → r ≡ s
+  pub itself : (extras user : ℕ) → 0 < user → share extras user < 4294967295 → Rounded extras user (share extras user)
+  pub oneInEight : share 1 8 ≡ 12
+  pub threeInEight : share 3 8 ≡ 38
