@@ -81,6 +81,10 @@ itself : (e u : ℕ) → 0 < u → share e u < 4294967295 → Rounded e u (share
 unfolding upTo32
 itself e u some h = subst (Rounded e u) (omega (arith, share-is e u some)) (nearest-is e u some)
 
+-- one extra frame alone is more than a half in a hundred there
+no-extras : (e u : ℕ) → 0 < u → u < 200 → share e u ≡ 0 → e ≡ 0
+no-extras e u some few z = omega (arith, subst (Rounded e u) z (itself e u some (omega (arith, z))) .near)
+
 none : (e : ℕ) → share e 0 ≡ 0
 unfolding share
 none e = refl
@@ -100,6 +104,7 @@ share-means =
       some = λ e u some. (nearest (e * 100) u, nearest-is e u some, share-is e u some);
       only = only;
       itself = itself;
+      noExtras = no-extras;
       oneInEight = one-in-eight;
       threeInEight = three-in-eight;
     }

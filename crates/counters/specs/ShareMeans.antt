@@ -16,11 +16,13 @@ pub record Rounded (extras user r : ℕ) : Type 0 where
 -- some: with user frames it is such an r, for which the largest number of 32 bits stands where r is larger
 -- only: there is one such r and no other
 -- itself: so a share below the largest number of 32 bits is such an r itself
+-- noExtras: a share of 0 in fewer than 200 user frames stands for no extra frame
 -- oneInEight, threeInEight: the request's examples, 12.5 and 37.5
 pub record ShareMeans : Type 0 where
   pub none : (extras : ℕ) → share extras 0 ≡ 0
   pub some : (extras user : ℕ) → 0 < user → (r : ℕ) × Rounded extras user r × share extras user ≡ upTo32 r
   pub only : (extras user r s : ℕ) → 0 < user → Rounded extras user r → Rounded extras user s → r ≡ s
   pub itself : (extras user : ℕ) → 0 < user → share extras user < 4294967295 → Rounded extras user (share extras user)
+  pub noExtras : (extras user : ℕ) → 0 < user → user < 200 → share extras user ≡ 0 → extras ≡ 0
   pub oneInEight : share 1 8 ≡ 12
   pub threeInEight : share 3 8 ≡ 38
