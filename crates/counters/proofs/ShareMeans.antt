@@ -60,6 +60,7 @@ none-above e u r d some a b =
     let none : d ≡ 0 = omega (arith, a .near, b .near, le-mul-of-pos-right d some) in
     omega (arith, a .even (omega (arith, none, a .near, b .near)), b .even (omega (arith, none, a .near, b .near)), none)
 
+-- so there is one nearest number
 pub only : (e u r s : ℕ) → 0 < u → Rounded e u r → Rounded e u s → r ≡ s
 only e u r s some a b = go (ltb r s) refl (ltb s r) refl
   where
@@ -77,6 +78,7 @@ share-is e u some = rw (ne-eqb u 0 (λ h. omega (arith, h)))
 pub share-by : (e u r : ℕ) → 0 < u → Rounded e u r → share e u ≡ upTo32 r
 share-by e u r some h = share-is e u some ∙ ap upTo32 (only e u (nearest (e * 100) u) r some (nearest-is e u some) h)
 
+-- a share below the largest number of 32 bits was not cut off
 itself : (e u : ℕ) → 0 < u → share e u < 4294967295 → Rounded e u (share e u)
 unfolding upTo32
 itself e u some h = subst (Rounded e u) (omega (arith, share-is e u some)) (nearest-is e u some)
@@ -85,6 +87,7 @@ itself e u some h = subst (Rounded e u) (omega (arith, share-is e u some)) (near
 no-extras : (e u : ℕ) → 0 < u → u < 200 → share e u ≡ 0 → e ≡ 0
 no-extras e u some few z = omega (arith, subst (Rounded e u) z (itself e u some (omega (arith, z))) .near)
 
+-- without user frames, and the request's two examples
 none : (e : ℕ) → share e 0 ≡ 0
 unfolding share
 none e = refl
