@@ -6,8 +6,8 @@ use native.Mathlib.Nat.{le-mul-of-pos-right, mod-add-div, mod-lt}
 use native.Mathlib.Omega.{arith}
 use borrow.Author.Tests.{eqb-false, eqb-true, ltb-false, ltb-true, ne-eqb}
 use lib.Dec.{eqb, ltb}
-use Rattle.counters.specs.Counted.{evenOf, nearest, share, upTo32}
-use Rattle.counters.specs.ShareMeans.{Rounded, ShareMeans}
+use Rattle.counters.specs.Counted.{countedDelivery, countedNothing, countedOffer, countedSend, evenOf, nearest, noCounters, share, upTo32, withExtras}
+use Rattle.counters.specs.ShareMeans.{Rounded, ShareMeans, SharePrinted}
 
 -- the choice of `nearest` by its cases: t is less than b, b, or more
 by-half : (P : ℕ → Type 0) (t b x y z : ℕ) → (t < b → P x) → (t ≡ b → P y) → (b < t → P z) → P (cond (ltb t b) x (cond (eqb t b) y z))
@@ -18,41 +18,35 @@ by-half P t b x y z under at over = go (ltb t b) refl (eqb t b) refl
     go false d true f = at (eqb-true t b f)
     go false d false f = over (omega (arith, ltb-false t b d, eqb-false t b f))
 
--- the lower neighbour is nearest up to the half, and at the half where it is even; t is what is left over
-pub down : (e u q t : ℕ) → t + u * q ≡ e * 100 → 2 * t ≤ u → (2 * t ≡ u → q % 2 ≡ 0) → Rounded e u q
-down e u q t parts low even = record { near = omega arith; even = λ h. even (omega arith) }
+-- the lower neighbour is nearest up to the half, and at the half where it is even
+pub down : (e u : ℕ) → 2 * (e * 100 % u) ≤ u → (2 * (e * 100 % u) ≡ u → e * 100 / u % 2 ≡ 0) → Rounded e u (e * 100 / u)
+down e u low even =
+    let parts = mod-add-div (e * 100) u in
+    record { near = omega (arith, parts); even = λ h. even (omega (arith, parts)) }
 
 -- the upper neighbour from the half on, and at the half where it is even
-pub up : (e u q t : ℕ) → t + u * q ≡ e * 100 → t < u → u ≤ 2 * t → (2 * t ≡ u → (q + 1) % 2 ≡ 0) → Rounded e u (q + 1)
-up e u q t parts inside high even = record { near = omega arith; even = λ h. even (omega arith) }
+pub up : (e u : ℕ) → 0 < u → u ≤ 2 * (e * 100 % u) → (2 * (e * 100 % u) ≡ u → (e * 100 / u + 1) % 2 ≡ 0) → Rounded e u (e * 100 / u + 1)
+up e u some high even =
+    let parts = mod-add-div (e * 100) u in
+    let inside = mod-lt (e * 100) some in
+    record { near = omega (arith, parts, inside); even = λ h. even (omega (arith, parts, inside)) }
 
 -- at the half itself the even neighbour is nearest
-half : (e u q t : ℕ) → t + u * q ≡ e * 100 → t < u → 2 * t ≡ u → Rounded e u (evenOf q)
-half e u q t parts inside h = go (q % 2) refl
+half : (e u : ℕ) → 0 < u → 2 * (e * 100 % u) ≡ u → Rounded e u (evenOf (e * 100 / u))
+half e u some h = go (e * 100 / u % 2) refl
   where
-    go : (k : ℕ) → q % 2 ≡ k → Rounded e u (q + k)
-    go zero k = subst (Rounded e u) (omega arith) (down e u q t parts (omega arith) (λ z. k))
-    go (suc zero) k = up e u q t parts inside (omega arith) (λ z. omega arith)
-    go (suc (suc j)) k = absurd (omega arith)
+    go : (k : ℕ) → e * 100 / u % 2 ≡ k → Rounded e u (e * 100 / u + k)
+    go zero parity = subst (Rounded e u) (omega arith) (down e u (omega arith) (λ z. parity))
+    go (suc zero) parity = up e u some (omega arith) (λ z. omega arith)
+    go (suc (suc k)) parity = absurd (omega arith)
 
 -- the number that the definition computes is nearest
 pub nearest-is : (e u : ℕ) → 0 < u → Rounded e u (nearest (e * 100) u)
 nearest-is e u some =
-    by-half (Rounded e u) (2 * t) u q (evenOf q) (q + 1) (λ h. down e u q t parts (omega arith) (λ z. absurd (omega arith)))
-    (half e u q t parts inside)
-    (λ h. up e u q t parts inside (omega arith) (λ z. absurd (omega arith)))
-  where
-    q : ℕ
-    q = e * 100 / u
-
-    t : ℕ
-    t = e * 100 % u
-
-    parts : t + u * q ≡ e * 100
-    parts = mod-add-div (e * 100) u
-
-    inside : t < u
-    inside = mod-lt (e * 100) some
+    by-half (Rounded e u) (2 * (e * 100 % u)) u (e * 100 / u) (evenOf (e * 100 / u)) (e * 100 / u + 1)
+    (λ h. down e u (omega arith) (λ z. absurd (omega arith)))
+    (half e u some)
+    (λ h. up e u some (omega arith) (λ z. absurd (omega arith)))
 
 -- of two different numbers not both are nearest: they would be neighbours, both at the half and both even
 none-above : (e u r d : ℕ) → 0 < u → Rounded e u r → Rounded e u (suc (r + d)) → ⊥
@@ -111,3 +105,8 @@ share-means =
       oneInEight = one-in-eight;
       threeInEight = three-in-eight;
     }
+
+-- a step that changes a count takes the share anew, another one leaves all three
+pub share-printed : SharePrinted
+unfolding countedDelivery countedNothing countedOffer countedSend noCounters share withExtras
+share-printed = record { start = refl; send = λ t x. refl; offer = λ t x e. cc; delivery = λ t x. refl; nothing = λ t x e. cc }

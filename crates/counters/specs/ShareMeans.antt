@@ -1,7 +1,8 @@
 -- What the extras share means, said without computing it (document 02, (ii)): the nearest whole number, of two equally near ones the even one.
 use Prim.Native.Nat.{ℕ, _+_, _-_, _*_, _%_, _<_, _≤_}
 use mathlib.Core.Path.{_≡_}
-use Rattle.counters.specs.Counted.{share, upTo32}
+use Rattle.counters.specs.declared.Counters.{Counters}
+use Rattle.counters.specs.Counted.{countedDelivery, countedNothing, countedOffer, countedSend, noCounters, share, upTo32}
 
 -- by how much two numbers differ
 abbrev pub apart : ℕ → ℕ → ℕ
@@ -26,3 +27,15 @@ pub record ShareMeans : Type 0 where
   pub noExtras : (extras user : ℕ) → 0 < user → user < 200 → share extras user ≡ 0 → extras ≡ 0
   pub oneInEight : share 1 8 ≡ 12
   pub threeInEight : share 3 8 ≡ 38
+
+-- the counters' share is that of their own extra and user frames
+abbrev pub OwnShare : Counters → Type 0
+OwnShare t = t .share ≡ share (t .extras) (t .user)
+
+-- it is so before the first step and after each: of the T numbers the last is always the share of the first two
+pub record SharePrinted : Type 0 where
+  pub start : OwnShare noCounters
+  pub send : (t : Counters) (x : ℕ) → OwnShare (countedSend t x)
+  pub offer : (t : Counters) (x : ℕ) → OwnShare t → OwnShare (countedOffer t x)
+  pub delivery : (t : Counters) (x : ℕ) → OwnShare (countedDelivery t x)
+  pub nothing : (t : Counters) (x : ℕ) → OwnShare t → OwnShare (countedNothing t x)
