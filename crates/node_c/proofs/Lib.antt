@@ -2,3 +2,4 @@
 pub mod Numbers
 pub mod Images
 pub mod Told
+pub mod TrailTold

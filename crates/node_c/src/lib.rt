@@ -1,6 +1,7 @@
 //! The node's calls for programs in Rust and C: the record is an image of 628 lent bytes, and each call returns 0 or its refusal and writes the values of its
 //! answer into lent numbers. The functions only take the image apart, call the node, and put the record back.
 mod image;
+mod trail_calls;
 
 use node::DeliverAnswer;
 use node::Node;
