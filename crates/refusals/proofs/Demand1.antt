@@ -1,6 +1,6 @@
 -- Demand 1, from each call by its refusal. Assumes nothing.
-use Prim.Native.Nat.{ℕ, _<_}
-use mathlib.Core.Bool.{Bool, true, false, cond, not}
+use Prim.Native.Nat.{ℕ, _+_, _<_}
+use mathlib.Core.Bool.{Bool, true, false, cond, not, _&&_}
 use mathlib.Core.List.{List, []}
 use mathlib.Core.Option.{Option, none, some}
 use mathlib.Core.Path.{_≡_, refl, sym, ap, _∙_}
@@ -8,7 +8,7 @@ use native.Mathlib.Omega.{arith}
 use native.Mathlib.Decide.{ℕ-discrete}
 use borrow.Author.Tests.{ne-eqb}
 use lib.Dec.{eqb}
-use lib.ListN.{length}
+use lib.ListN.{length, take}
 use Rattle.frame.specs.Frame.{decode}
 use Rattle.frame.specs.Header.{header}
 use Rattle.frame.specs.Refusals.{frameRefusal, wrongAddress, wrongContent, wrongKind, wrongTrailer}
@@ -27,6 +27,19 @@ use Rattle.protocol.specs.Node.{atLimit}
 use Rattle.protocol.specs.Offer.{holding}
 use Rattle.protocol.specs.Send.{sending}
 use Rattle.rules.specs.Rules.{inRange}
+use Rattle.trail.specs.Cursor.{passing, wrongWindow}
+use Rattle.trail.specs.Sound.{extraBit, unsound}
+use Rattle.trail.specs.Step.{stepAt, stepCall, stepNumber}
+use Rattle.trail.specs.Walk.{badEnd, lastFrame, lastLength, lastStart, walk, walkCall, walkNumber}
+use Rattle.trail.specs.Windows.{largest}
+use Rattle.trail.specs.Write.{AfterWrite, afterWrite, noRoomFor, writeCall, writeNumber}
+use Rattle.trail.specs.declared.walk.Cursor.{Cursor}
+use Rattle.trail.specs.declared.walk.StepAnswer.{StepAnswer}
+use Rattle.trail.specs.declared.walk.StepAnswer.the-variants as stepAnswer
+use Rattle.trail.specs.declared.walk.WalkAnswer.{WalkAnswer}
+use Rattle.trail.specs.declared.walk.WalkAnswer.the-variants as walkAnswer
+use Rattle.trail.specs.declared.write.WriteAnswer.the-variants as writeAnswer
+use Rattle.wire.specs.Bytes.{put}
 use Rattle.text.proofs.Print.{run-short}
 use Rattle.text.specs.Output.{afterRun}
 use Rattle.text.specs.Print.{refusalRow}
@@ -39,9 +52,9 @@ use Rattle.request.specs.declared.Request.the-variants as asks
 use Rattle.sweep.proofs.Outputs.{answered-refused, answered-table, not-refusal}
 use Rattle.sweep.specs.Load as load
 use Rattle.sweep.specs.Run.{outputSize, runCall}
-use Rattle.refusals.proofs.First.{by-first, not-both}
-use Rattle.refusals.specs.Demand1.{Answers, DeliverSays, Demand1, First, LoadSays, OfferSays, SendSays, SetUpSays}
-use Rattle.refusals.specs.Demand1.{deliverChecks, firstMet, loadChecks, offerChecks, sendChecks, setUpChecks}
+use Rattle.refusals.proofs.First.{by-first, first-lowest, not-both}
+use Rattle.refusals.specs.Demand1.{Answers, DeliverSays, Demand1, First, LoadSays, OfferSays, SendSays, SetUpSays, StepSays, WalkSays, WriteSays}
+use Rattle.refusals.specs.Demand1.{deliverChecks, firstMet, loadChecks, offerChecks, sendChecks, setUpChecks, stepChecks, walkChecks, writeChecks}
 use Rattle.node.specs.declared.Node.{Node as Record}
 use Rattle.node.specs.declared.SetUp.{SetUp}
 use Rattle.node.specs.declared.SetUpAnswer.the-variants as setUpAnswer
@@ -284,5 +297,105 @@ module _ (s : List ℕ) where
         same = load-same;
       }
 
+-- ---- the trail
+written-not : (used k : ℕ) → ¬ (writeAnswer.Written used ≡ writeAnswer.Refused k)
+written-not used k e = let z : _≡_ {A = ℕ} 0 1 = cc in absurd (omega arith)
+
+end-not : (most k : ℕ) → ¬ (stepAnswer.End most ≡ stepAnswer.Refused k)
+end-not most k e = let z : _≡_ {A = ℕ} 0 1 = cc in absurd (omega arith)
+
+shown-not : (start size : ℕ) (next : Cursor) (k : ℕ) → ¬ (stepAnswer.Shown start size next ≡ stepAnswer.Refused k)
+shown-not start size next k e = let z : _≡_ {A = ℕ} 0 1 = cc in absurd (omega arith)
+
+largest-not : (most k : ℕ) → ¬ (walkAnswer.Largest most ≡ walkAnswer.Refused k)
+largest-not most k e = let z : _≡_ {A = ℕ} 0 1 = cc in absurd (omega arith)
+
+-- two checks, the first of them looked at first
+by-two : {A : Type 0} (t u : Bool) (i j : ℕ) (x : A) (g : ℕ → A) → ¬ (i ≡ 0) → ¬ (j ≡ 0)
+    → cond t (g i) (cond u (g j) x) ≡ cond (eqb (cond t i (cond u j 0)) 0) x (g (cond t i (cond u j 0)))
+by-two true u i j x g p q = rw (ne-eqb i 0 p)
+by-two false true i j x g p q = rw (ne-eqb j 0 q)
+by-two false false i j x g p q = refl
+
+write-says : (file : List ℕ) (used : ℕ) (frame : List ℕ) → WriteSays file used frame (writeCall file used frame)
+unfolding writeCall
+write-says file used frame =
+    let l = writeChecks file used frame in
+    let c = writeCall file used frame in
+    let x = afterWrite (writeAnswer.Written (used + length frame)) (put file used frame) in
+    let g : ℕ → AfterWrite = λ k. afterWrite (writeAnswer.Refused k) file in
+    let by = by-two (unsound frame) (noRoomFor file used frame) 19 3 x g (λ e. omega arith) (λ e. omega arith) in
+    record {
+      numbers = refl;
+      answers =
+          by-first writeAnswer.Refused writeNumber l (x .answer) (c .answer) (omega arith, (omega arith, tt))
+          (part (λ (a : AfterWrite). a .answer) c (firstMet l) x g by) (λ k. refl) refl (written-not (used + length frame));
+      same = λ h. ap (λ (a : AfterWrite). a .file) (refused (λ (a : AfterWrite). writeNumber (a .answer)) c (firstMet l) x g by refl h);
+    }
+
+-- a step that is not refused: the start, or a frame
+abbrev goesOn : Bool → ℕ → ℕ → ℕ → Cursor → StepAnswer
+goesOn b most start size next = cond b (stepAnswer.End most) (stepAnswer.Shown start size next)
+
+goes-number : (b : Bool) (most start size : ℕ) (next : Cursor) → stepNumber (goesOn b most start size next) ≡ 0
+goes-number true most start size next = refl
+goes-number false most start size next = refl
+
+goes-not : (b : Bool) (most start size : ℕ) (next : Cursor) (k : ℕ) → ¬ (goesOn b most start size next ≡ stepAnswer.Refused k)
+goes-not true most start size next k = end-not most k
+goes-not false most start size next k = shown-not start size next k
+
+-- what is left is looked at before its end is
+after-window : (b d : Bool) (x y z : StepAnswer) → cond b x (cond d z y) ≡ cond (not b && d) z (cond b x y)
+after-window true d x y z = refl
+after-window false d x y z = refl
+
+step-says : (file : List ℕ) (c : Cursor) → StepSays file c
+unfolding stepCall stepAt
+step-says file c =
+    let s = take (c .end) file in
+    let next = passing c (lastStart s) (extraBit (lastFrame s)) in
+    let x = goesOn (eqb (length s) 0) (c .most) (lastStart s) (lastLength s) next in
+    record {
+      numbers = refl;
+      answers =
+          by-first stepAnswer.Refused stepNumber (stepChecks file c) x (stepCall file c) (omega arith, (omega arith, tt))
+          (ap (cond (wrongWindow (c .w)) (stepAnswer.Refused 19))
+          (after-window (eqb (length s) 0) (badEnd s) (stepAnswer.End (c .most)) (stepAnswer.Shown (lastStart s) (lastLength s) next) (stepAnswer.Refused 19))
+          ∙ by-two (wrongWindow (c .w)) (not (eqb (length s) 0) && badEnd s) 19 19 x stepAnswer.Refused (λ e. omega arith) (λ e. omega arith)) (λ k. refl)
+          (goes-number (eqb (length s) 0) (c .most) (lastStart s) (lastLength s) next)
+          (goes-not (eqb (length s) 0) (c .most) (lastStart s) (lastLength s) next);
+    }
+
+-- a test and its opposite
+turned : (b : Bool) (x y : WalkAnswer) → cond b x y ≡ cond (not b) y x
+turned true x y = refl
+turned false x y = refl
+
+walk-says : (file : List ℕ) (w : ℕ) → WalkSays file w
+unfolding walkCall
+walk-says file w =
+    let t = eqb (length (walk file .left)) 0 in
+    let x = walkAnswer.Largest (largest w (walk file .kinds)) in
+    record {
+      numbers = refl;
+      answers =
+          by-first walkAnswer.Refused walkNumber (walkChecks file w) x (walkCall file w) (omega arith, (omega arith, tt))
+          (ap (cond (wrongWindow w) (walkAnswer.Refused 19)) (turned t x (walkAnswer.Refused 19))
+          ∙ by-two (wrongWindow w) (not t) 19 19 x walkAnswer.Refused (λ e. omega arith) (λ e. omega arith)) (λ k. refl) refl
+          (largest-not (largest w (walk file .kinds)));
+    }
+
 pub demand1 : Demand1
-demand1 = record { setUp = set-up-says; send = send-says; offer = offer-says; deliver = deliver-says; load = load-says }
+demand1 =
+    record {
+      setUp = set-up-says;
+      send = send-says;
+      offer = offer-says;
+      deliver = deliver-says;
+      load = load-says;
+      write = write-says;
+      step = step-says;
+      walk = walk-says;
+      lowest = first-lowest;
+    }

@@ -1,4 +1,4 @@
--- The first check of a rising list that is met, both ways. Assumes nothing.
+-- The first check of a list that is met, both ways. Assumes nothing.
 use Prim.Native.Nat.{ℕ, _<_}
 use mathlib.Core.Bool.{Bool, true, false, cond}
 use mathlib.Core.List.{List, [], _∷_}
@@ -8,18 +8,12 @@ use native.Mathlib.Omega.{arith}
 use native.Mathlib.Decide.{ℕ-discrete}
 use borrow.Author.Tests.{ne-eqb}
 use lib.Dec.{eqb}
-use Rattle.refusals.specs.Demand1.{Answers, Check, First, Met, NoneMet, firstMet}
+use Rattle.refusals.specs.Demand1.{Answers, Check, First, Met, NoneMet, Rising, firstMet}
 
--- the numbers of the list rise, and the first is above k
-abbrev pub Above : ℕ → List Check → Type 0
-Above k [] = Unit {0}
-Above k (c ∷ l) = (k < c .number) × Above (c .number) l
-
--- a met check of such a list is above k
-met-above : (k : ℕ) (l : List Check) → Above k l → (j : ℕ) → Met l j → k < j
-met-above k [] a j m = absurd m
-met-above k (c ∷ l) a j (inl m) = omega (arith, a .0, m .0)
-met-above k (c ∷ l) a j (inr m) = omega (arith, a .0, met-above (c .number) l (a .1) j m)
+-- no number of the list is 0
+abbrev pub Positive : List Check → Type 0
+Positive [] = Unit {0}
+Positive (c ∷ l) = (0 < c .number) × Positive l
 
 -- a test is not both
 pub not-both : (b : Bool) → b ≡ true → b ≡ false → ⊥
@@ -34,60 +28,35 @@ module _ (c : Check) (l : List Check) where
   past : c .met ≡ false → firstMet (c ∷ l) ≡ firstMet l
   past p = rw p
 
-  met-here : Above (c .number) l → c .met ≡ true → First (c ∷ l) (c .number)
-  met-here a p = record { met = inl (refl, p); lower = lower }
-    where
-      lower : (j : ℕ) → j < c .number → ¬ Met (c ∷ l) j
-      lower j h (inl m) = absurd (omega (arith, m .0))
-      lower j h (inr m) = absurd (omega (arith, met-above (c .number) l a j m))
-
-  met-later : c .met ≡ false → (k : ℕ) → First l k → First (c ∷ l) k
-  met-later p k f = record { met = inr (f .met); lower = lower }
-    where
-      lower : (j : ℕ) → j < k → ¬ Met (c ∷ l) j
-      lower j h (inl m) = not-both (c .met) (m .1) p
-      lower j h (inr m) = f .lower j h m
-
   none-later : c .met ≡ false → NoneMet l → NoneMet (c ∷ l)
   none-later p f k (inl m) = not-both (c .met) (m .1) p
   none-later p f k (inr m) = f k m
 
-  first-tail : c .met ≡ false → (k : ℕ) → First (c ∷ l) k → First l k
-  first-tail p k f = record { met = tail (f .met); lower = λ j h m. f .lower j h (inr m) }
-    where
-      tail : Met (c ∷ l) k → Met l k
-      tail (inl m) = absurd (not-both (c .met) (m .1) p)
-      tail (inr m) = m
+-- the first that is met has a number of the list
+first-positive : (l : List Check) → Positive l → (k : ℕ) → First l k → 0 < k
+first-positive [] a k f = absurd f
+first-positive (c ∷ l) a k (inl m) = omega (arith, a .0, m .0)
+first-positive (c ∷ l) a k (inr m) = first-positive l (a .1) k (m .1)
 
-  first-here : Above (c .number) l → c .met ≡ true → (k : ℕ) → First (c ∷ l) k → c .number ≡ k
-  first-here a p k f = go (f .met)
-    where
-      go : Met (c ∷ l) k → c .number ≡ k
-      go (inl m) = m .0
-      go (inr m) = absurd (f .lower (c .number) (met-above (c .number) l a k m) (inl (refl, p)))
-
--- a number of the first met check that is not 0 is met, and none lower is
-first-given : (i : ℕ) (l : List Check) → Above i l → (k : ℕ) → ¬ (k ≡ 0) → firstMet l ≡ k → First l k
-first-given i [] a k h e = absurd (h (sym e))
-first-given i (c ∷ l) a k h e = go (c .met) refl (first-given (c .number) l (a .1) k h)
+-- a number of the first met check that is not 0 is that of the first that is met
+first-given : (l : List Check) (k : ℕ) → ¬ (k ≡ 0) → firstMet l ≡ k → First l k
+first-given [] k h e = absurd (h (sym e))
+first-given (c ∷ l) k h e = go (c .met) refl (first-given l k h)
   where
     go : (b : Bool) → c .met ≡ b → (firstMet l ≡ k → First l k) → First (c ∷ l) k
-    go true p f = rw (sym e ∙ here c l p) (met-here c l (a .1) p)
-    go false p f = met-later c l p k (f (sym (past c l p) ∙ e))
+    go true p f = inl (sym (here c l p) ∙ e, p)
+    go false p f = inr (p, f (sym (past c l p) ∙ e))
 
 -- and the other way
-first-gives : (i : ℕ) (l : List Check) → Above i l → (k : ℕ) → First l k → firstMet l ≡ k
-first-gives i [] a k f = absurd (f .met)
-first-gives i (c ∷ l) a k f = go (c .met) refl (first-gives (c .number) l (a .1) k)
-  where
-    go : (b : Bool) → c .met ≡ b → (First l k → firstMet l ≡ k) → firstMet (c ∷ l) ≡ k
-    go true p g = here c l p ∙ first-here c l (a .1) p k f
-    go false p g = past c l p ∙ g (first-tail c l p k f)
+first-gives : (l : List Check) (k : ℕ) → First l k → firstMet l ≡ k
+first-gives [] k f = absurd f
+first-gives (c ∷ l) k (inl m) = here c l (m .1) ∙ m .0
+first-gives (c ∷ l) k (inr m) = past c l (m .0) ∙ first-gives l k (m .1)
 
 -- 0 says that none is met
-none-given : (i : ℕ) (l : List Check) → Above i l → firstMet l ≡ 0 → NoneMet l
-none-given i [] a e = λ k m. m
-none-given i (c ∷ l) a e = go (c .met) refl (none-given (c .number) l (a .1))
+none-given : (l : List Check) → Positive l → firstMet l ≡ 0 → NoneMet l
+none-given [] a e = λ k m. m
+none-given (c ∷ l) a e = go (c .met) refl (none-given l (a .1))
   where
     go : (b : Bool) → c .met ≡ b → (firstMet l ≡ 0 → NoneMet l) → NoneMet (c ∷ l)
     go true p g = absurd (omega (arith, a .0, sym (here c l p) ∙ e))
@@ -101,19 +70,34 @@ none-gives (c ∷ l) f = go (c .met) refl (none-gives l)
     go true p g = absurd (f (c .number) (inl (refl, p)))
     go false p g = past c l p ∙ g (λ k m. f k (inr m))
 
+-- of a list whose numbers rise, no check has a number below the first one's
+rising-above : (c : Check) (l : List Check) → Rising (c ∷ l) → (j : ℕ) → Met l j → c .number < j
+rising-above c [] r j m = absurd m
+rising-above c (d ∷ l) r j (inl m) = omega (arith, r .0, m .0)
+rising-above c (d ∷ l) r j (inr m) = omega (arith, r .0, rising-above d l (r .1) j m)
+
+-- so the first that is met has the lowest number
+pub first-lowest : (l : List Check) (k : ℕ) → Rising l → First l k → (j : ℕ) → j < k → ¬ Met l j
+first-lowest [] k r f j h m = m
+first-lowest (c ∷ l) k r (inl f) j h (inl m) = absurd (omega (arith, f .0, m .0))
+first-lowest (c ∷ l) k r (inl f) j h (inr m) = absurd (omega (arith, f .0, rising-above c l r j m))
+first-lowest (c ∷ l) k r (inr f) j h (inl m) = not-both (c .met) (m .1) (f .0)
+first-lowest (c ∷ []) k r (inr f) j h (inr m) = m
+first-lowest (c ∷ d ∷ l) k r (inr f) j h (inr m) = first-lowest (d ∷ l) k (r .1) (f .1) j h m
+
 -- an answer that is the refusal of the first met check, or where none is met is no refusal, says what it should
-pub by-first : {A : Type 0} (refused : ℕ → A) (number : A → ℕ) (l : List Check) (accepted answer : A) → Above 0 l
+pub by-first : {A : Type 0} (refused : ℕ → A) (number : A → ℕ) (l : List Check) (accepted answer : A) → Positive l
     → answer ≡ cond (eqb (firstMet l) 0) accepted (refused (firstMet l))
     → ((k : ℕ) → number (refused k) ≡ k) → number accepted ≡ 0 → ((k : ℕ) → ¬ (accepted ≡ refused k)) → Answers refused number l answer
 by-first {A} refused number l accepted answer a e n z d =
     record {
       first = first;
-      given = λ k h p. first-given 0 l a k h (sym first ∙ p);
-      gives = λ k f. first ∙ first-gives 0 l a k f;
-      accepted = λ p. none-given 0 l a (sym first ∙ p);
+      given = λ k h p. first-given l k h (sym first ∙ p);
+      gives = λ k f. first ∙ first-gives l k f;
+      accepted = λ p. none-given l a (sym first ∙ p);
       accepts = λ f. first ∙ none-gives l f;
       refusal = refusal;
-      refuses = λ k f. refuses k f (first-gives 0 l a k f);
+      refuses = λ k f. refuses k f (first-gives l k f);
     }
   where
     taken : firstMet l ≡ 0 → answer ≡ accepted
@@ -137,7 +121,7 @@ by-first {A} refused number l accepted answer a e n z d =
 
         go : Dec (firstMet l ≡ 0) → First l k
         go (yes q) = absurd (d k (sym (taken q) ∙ p))
-        go (no h) = first-given 0 l a k (λ q. h (same ∙ q)) same
+        go (no h) = first-given l k (λ q. h (same ∙ q)) same
 
     refuses : (k : ℕ) → First l k → firstMet l ≡ k → answer ≡ refused k
-    refuses k f p = given-up (λ q. absurd (omega (arith, met-above 0 l a k (f .met), p, q))) ∙ ap refused p
+    refuses k f p = given-up (λ q. absurd (omega (arith, first-positive l a k f, p, q))) ∙ ap refused p

@@ -1,18 +1,27 @@
--- Demand 1: each call answers with the first of its checks that is met, in rising order, and a refusal leaves record and buffers as they were.
+-- Demand 1: each call answers with the first of its checks that is met, in the papers' order, and a refusal leaves record and buffers as they were.
 -- The calls are `setUp`, `sendCall`, `offerCall` and `deliverCall`, the definitions that the promises of set-up, send, offer and deliver cite,
--- and `runCall` of the load (document 02, (i)), whose refusal is printed.
+-- `runCall` of the load (document 02, (i)), whose refusal is printed, and `writeCall`, `stepCall` and `walkCall` of the trail (document 02, (iii)).
 use Prim.Native.Nat.{ℕ, _<_}
-use mathlib.Core.Bool.{Bool, true, cond, not, _||_}
+use mathlib.Core.Bool.{Bool, true, false, cond, not, _&&_, _||_}
 use mathlib.Core.List.{List, [], _∷_, map}
 use mathlib.Core.Logic.{_⊎_}
 use mathlib.Core.Path.{_≡_}
 use lib.Dec.{eqb, ltb}
-use lib.ListN.{length}
+use lib.ListN.{length, take}
 use Rattle.wire.specs.Limits.{maxBody}
 use Rattle.rules.specs.Rules.{inRange}
 use Rattle.frame.specs.Header.{header}
 use Rattle.frame.specs.Frame.{decode}
 use Rattle.frame.specs.Refusals.{wrongAddress, wrongContent, wrongKind, wrongTrailer}
+use Rattle.trail.specs.Cursor.{wrongWindow}
+use Rattle.trail.specs.Sound.{unsound}
+use Rattle.trail.specs.Step.{stepCall, stepNumber}
+use Rattle.trail.specs.Walk.{badEnd, walk, walkCall, walkNumber}
+use Rattle.trail.specs.Write.{AfterWrite, noRoomFor, writeCall, writeNumber}
+use Rattle.trail.specs.declared.walk.Cursor.{Cursor}
+use Rattle.trail.specs.declared.walk.StepAnswer.the-variants as stepAnswer
+use Rattle.trail.specs.declared.walk.WalkAnswer.the-variants as walkAnswer
+use Rattle.trail.specs.declared.write.WriteAnswer.the-variants as writeAnswer
 use Rattle.protocol.specs.Node.{atLimit}
 use Rattle.protocol.specs.Send.{badDestination, longBody}
 use Rattle.protocol.specs.Offer.{claimsTooMuch, deliveredBefore, heldAlready, noRoom, notForMe}
@@ -65,10 +74,16 @@ Met (c ∷ l) k = ((c .number ≡ k) × (c .met ≡ true)) ⊎ Met l k
 abbrev pub NoneMet : List Check → Type 0
 NoneMet l = (k : ℕ) → ¬ Met l k
 
--- check k is met, and none with a lower number is
-pub record First (l : List Check) (k : ℕ) : Type 0 where
-  pub met : Met l k
-  pub lower : (j : ℕ) → j < k → ¬ Met l j
+-- the first check of the list that is met has number k: it is met, and none that stands in front of it is
+abbrev pub First : List Check → ℕ → Type 0
+First [] k = ⊥
+First (c ∷ l) k = ((c .number ≡ k) × (c .met ≡ true)) ⊎ ((c .met ≡ false) × First l k)
+
+-- the numbers of the list rise
+abbrev pub Rising : List Check → Type 0
+Rising [] = Unit {0}
+Rising (c ∷ []) = Unit {0}
+Rising (c ∷ d ∷ l) = (c .number < d .number) × Rising (d ∷ l)
 
 -- what an answer says by its number, for a list of checks: 0 exactly where none is met, and else the first that is met
 pub record Answers {A : Type 0} (refused : ℕ → A) (number : A → ℕ) (l : List Check) (answer : A) : Type 0 where
@@ -81,7 +96,7 @@ pub record Answers {A : Type 0} (refused : ℕ → A) (number : A → ℕ) (l : 
   pub refusal : (k : ℕ) → answer ≡ refused k → First l k
   pub refuses : (k : ℕ) → First l k → answer ≡ refused k
 
--- ---- the checks of each call, in the papers' words, in rising order
+-- ---- the checks of each call, in the papers' words and order
 
 -- set-up: 1. n, me or cap is out of range.
 abbrev pub setUpChecks : (me n cap : ℕ) → List Check
@@ -145,6 +160,21 @@ deliverChecks r q out body =
 abbrev pub loadChecks : (input : List ℕ) → List Check
 loadChecks input = check 18 (refused18 input) ∷ []
 
+-- the trail's write: 19. The frame to write would meet one of 8 to 11 with its own n and cap taken for the record's, or has these out of 1's range.
+-- 3, after 19. It doesn't fit.
+abbrev pub writeChecks : (file : List ℕ) → ℕ → (frame : List ℕ) → List Check
+writeChecks file used frame = check 19 (unsound frame) ∷ check 3 (noRoomFor file used frame) ∷ []
+
+-- a step of the trail's walk: 19. w is out of range; or, where something is left, it is too short for a trailer, the trailer points before the file's
+-- start, or the frame there is not sound on its own.
+abbrev pub stepChecks : (file : List ℕ) → Cursor → List Check
+stepChecks file c =
+    check 19 (wrongWindow (c .w)) ∷ check 19 (not (eqb (length (take (c .end) file)) 0) && badEnd (take (c .end) file)) ∷ []
+
+-- the whole walk: 19. w is out of range, or the walk stops before the file's start.
+abbrev pub walkChecks : (file : List ℕ) → ℕ → List Check
+walkChecks file w = check 19 (wrongWindow w) ∷ check 19 (not (eqb (length (walk file .left)) 0)) ∷ []
+
 -- ---- demand 1
 
 -- set-up: a refusal comes with the all-zero record
@@ -179,6 +209,21 @@ pub record LoadSays (input : List ℕ) : Type 0 where
   pub prints : First (loadChecks input) 18 → output input ≡ refusalRow 18
   pub same : (out : List ℕ) → length out < outputSize → runCall input out ≡ afterRun TooShort out
 
+-- the trail's write: a refusal leaves the file
+pub record WriteSays (file : List ℕ) (used : ℕ) (frame : List ℕ) (c : AfterWrite) : Type 0 where
+  pub numbers : numbers (writeChecks file used frame) ≡ 19 ∷ 3 ∷ []
+  pub answers : Answers writeAnswer.Refused writeNumber (writeChecks file used frame) (c .answer)
+  pub same : ¬ (writeNumber (c .answer) ≡ 0) → c .file ≡ file
+
+-- a step of the trail's walk, and the whole walk, which write nothing
+pub record StepSays (file : List ℕ) (c : Cursor) : Type 0 where
+  pub numbers : numbers (stepChecks file c) ≡ 19 ∷ 19 ∷ []
+  pub answers : Answers stepAnswer.Refused stepNumber (stepChecks file c) (stepCall file c)
+
+pub record WalkSays (file : List ℕ) (w : ℕ) : Type 0 where
+  pub numbers : numbers (walkChecks file w) ≡ 19 ∷ 19 ∷ []
+  pub answers : Answers walkAnswer.Refused walkNumber (walkChecks file w) (walkCall file w)
+
 -- demand 1, for every input
 pub record Demand1 : Type 0 where
   pub setUp : (me n cap : ℕ) → SetUpSays me n cap (setUp me n cap)
@@ -186,3 +231,8 @@ pub record Demand1 : Type 0 where
   pub offer : (r : Record) (s q : List ℕ) → OfferSays r s q (offerCall r s q)
   pub deliver : (r : Record) (q out body : List ℕ) → DeliverSays r q out body (deliverCall r q out body)
   pub load : (input : List ℕ) → LoadSays input
+  pub write : (file : List ℕ) (used : ℕ) (frame : List ℕ) → WriteSays file used frame (writeCall file used frame)
+  pub step : (file : List ℕ) (c : Cursor) → StepSays file c
+  pub walk : (file : List ℕ) (w : ℕ) → WalkSays file w
+  -- of checks whose numbers rise, the first that is met is the one with the lowest number
+  pub lowest : (l : List Check) (k : ℕ) → Rising l → First l k → (j : ℕ) → j < k → ¬ Met l j
