@@ -1,5 +1,6 @@
 //! The frame: its layout, checks 8 to 14, and the writing of issued frames.
 
+use crate::record::in_range;
 use crate::{Record, Refusal};
 
 /// Bytes in front of the entries.
@@ -53,13 +54,28 @@ impl<'a> Frame<'a> {
     /// The frame that these bytes are whole, or the first of checks 8 to 14 that they meet at this record.
     pub fn check(bytes: &'a [u8], record: &Record) -> Result<Frame<'a>, Refusal> {
         refuse(!has_sound_trailer(bytes), 8)?;
-        refuse(!matches!(bytes[0], USER | EXTRA) || bytes[7] != 0, 9)?;
-        refuse(!has_sound_parties(bytes, record), 10)?;
-        let frame = Frame::first_of(bytes).filter(|frame| frame.bytes.len() == bytes.len()).ok_or(11)?;
-        refuse(!frame.has_sound_parts(record), 11)?;
+        let frame = Frame::check_parts(bytes, record.n, record.cap)?;
         refuse(frame.to() != record.me as usize, 12)?;
         refuse(frame.knows_more_than(record), 13)?;
         refuse(frame.number() <= record.deliv[frame.from()], 14)?;
+        Ok(frame)
+    }
+
+    /// The frame that these bytes are whole, or one of checks 8 to 11 that they meet with their own n and cap taken for
+    /// a record's, or 1 where these are out of range.
+    pub fn check_alone(bytes: &'a [u8]) -> Result<Frame<'a>, Refusal> {
+        refuse(!has_sound_trailer(bytes), 8)?;
+        let (n, cap) = (bytes[5], bytes[6]);
+        refuse(!in_range(0, n as usize, cap as usize), 1)?;
+        Frame::check_parts(bytes, n, cap)
+    }
+
+    /// The frame that these bytes with a sound trailer are, or the first of checks 9 to 11 that they meet.
+    fn check_parts(bytes: &'a [u8], n: u8, cap: u8) -> Result<Frame<'a>, Refusal> {
+        refuse(!matches!(bytes[0], USER | EXTRA) || bytes[7] != 0, 9)?;
+        refuse(!has_sound_parties(bytes, n, cap), 10)?;
+        let frame = Frame::first_of(bytes).filter(|frame| frame.bytes.len() == bytes.len()).ok_or(11)?;
+        refuse(!frame.has_sound_parts(n as usize, cap as usize), 11)?;
         Ok(frame)
     }
 
@@ -121,11 +137,11 @@ impl<'a> Frame<'a> {
     }
 
     /// b and e keep their rules, and so does every entry.
-    fn has_sound_parts(&self, record: &Record) -> bool {
+    fn has_sound_parts(&self, n: usize, cap: usize) -> bool {
         let longest = if self.kind() == USER { Record::BODY } else { 0 };
         self.body().len() <= longest
-            && self.entry_count() <= record.cap as usize
-            && self.entries().all(|entry| self.allows(entry, record.n as usize))
+            && self.entry_count() <= cap
+            && self.entries().all(|entry| self.allows(entry, n))
             && self.entries_rise()
     }
 
@@ -170,10 +186,10 @@ fn has_sound_trailer(bytes: &[u8]) -> bool {
     trailer == trailer_of(front)
 }
 
-/// The frame's n and cap are the record's, from and to are below n, and they are unequal.
-fn has_sound_parties(bytes: &[u8], record: &Record) -> bool {
+/// The frame's n and cap are these, from and to are below n, and they are unequal.
+fn has_sound_parties(bytes: &[u8], n: u8, cap: u8) -> bool {
     let (from, to) = (bytes[1], bytes[2]);
-    bytes[5] == record.n && bytes[6] == record.cap && from < record.n && to < record.n && from != to
+    bytes[5] == n && bytes[6] == cap && from < n && to < n && from != to
 }
 
 /// The byte count in front of the trailer, then the sum, modulo 65,536, of all bytes before the sum.

@@ -5,6 +5,7 @@
 #![forbid(unsafe_code)]
 
 pub mod boundary;
+pub mod cursor;
 pub mod draft;
 pub mod event;
 pub mod frame;
@@ -18,6 +19,7 @@ pub mod random;
 pub mod record;
 pub mod shelf;
 pub mod text;
+pub mod trail;
 pub mod xorshift;
 pub mod yard;
 

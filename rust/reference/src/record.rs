@@ -163,7 +163,7 @@ impl Record {
 }
 
 /// n is 2 to 12, me is below n, and cap is n to n × n.
-fn in_range(me: usize, n: usize, cap: usize) -> bool {
+pub fn in_range(me: usize, n: usize, cap: usize) -> bool {
     (2..=Record::NODES).contains(&n) && me < n && (n..=n * n).contains(&cap)
 }
 
