@@ -21,7 +21,7 @@ pub fn run_lent(mut image: Image, call: &Call, buffers: &mut Buffers) -> Lent {
     let (answer, kept) = match call {
         Call::SetUp { me, n, cap } => {
             let status = lent::set_up(&mut image, *me, *n, *cap);
-            (Answer::SetUp(linked::set_up_answer(status)), true)
+            (Answer::SetUp(linked::answer(status)), true)
         }
         Call::Send { to, body } => {
             let mut values = [MARK; SEND_VALUES];

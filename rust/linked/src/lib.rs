@@ -1,10 +1,12 @@
-//! The exported calls of the proved node and the proved load behind safe functions.
+//! The exported calls of the proved node, the proved trail and the proved load behind safe functions.
 //!
-//! `lent` has the calls as they are exported, over an image of the record and lent numbers. The functions here have
-//! the by-value interface of `reference`, with its record and answers. `load` is the load over lent bytes.
+//! `lent` has the node's calls as they are exported, over an image of the record and lent numbers. The functions here
+//! have the by-value interface of `reference`, with its record and answers. `trail` is the trail, `load` the load over
+//! lent bytes.
 
 pub mod lent;
 pub mod load;
+pub mod trail;
 
 pub use load::load;
 
@@ -16,7 +18,7 @@ use reference::{DeliverAnswer, OfferAnswer, Record, Refusal, SendAnswer};
 pub fn set_up(me: usize, n: usize, cap: usize) -> (Result<(), Refusal>, Record) {
     let mut image = Record::ZERO.to_image();
     let status = lent::set_up(&mut image, me, n, cap);
-    (set_up_answer(status), Record::from_image(&image))
+    (answer(status), Record::from_image(&image))
 }
 
 /// Send from me to a destination.
@@ -43,8 +45,8 @@ pub fn deliver(record: Record, shelf: &mut [u8], out: &mut [u8], body_out: &mut 
     (deliver_answer(status, values), Record::from_image(&image))
 }
 
-/// The answer of a set-up with this status.
-pub fn set_up_answer(status: u8) -> Result<(), Refusal> {
+/// The answer of a call with this status and no values.
+pub fn answer(status: u8) -> Result<(), Refusal> {
     match status {
         0 => Ok(()),
         number => Err(number),

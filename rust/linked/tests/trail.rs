@@ -1,0 +1,112 @@
+//! The program `trail`: what it prints, what it refuses, its status, and that it leaves the file.
+
+use linked::trail::write;
+use reference::draft::Draft;
+use reference::frame::{Entry, EXTRA, USER};
+use std::ffi::OsStr;
+use std::fs::File;
+use std::path::PathBuf;
+use std::process::{Command, Output, Stdio};
+
+/// A trail of three frames: user, extra, user.
+fn sample() -> Vec<u8> {
+    let second = Entry { row: 2, column: 1, value: 4 };
+    let frames = [
+        Draft { kind: USER, from: 0, to: 1, n: 3, cap: 3, zero: 0, entries: vec![], body: b"O".to_vec() },
+        Draft { kind: EXTRA, from: 2, to: 1, n: 4, cap: 16, zero: 0, entries: vec![second], body: vec![] },
+        Draft { kind: USER, from: 11, to: 10, n: 12, cap: 144, zero: 0, entries: vec![], body: vec![7; 64] },
+    ];
+    let (mut file, mut used) = ([0; 200], 0);
+    frames.iter().for_each(|frame| write(&mut file, &mut used, &frame.bytes()).expect("a sound frame with room"));
+    file[..used].to_vec()
+}
+
+/// A file with these bytes, of its own name.
+fn stored(name: &str, bytes: &[u8]) -> PathBuf {
+    let path = PathBuf::from(env!("CARGO_TARGET_TMPDIR")).join(name);
+    std::fs::write(&path, bytes).expect("the file can be written");
+    path
+}
+
+/// Runs the program, with its standard output where asked.
+fn run_to(arguments: &[&OsStr], output: Stdio) -> Output {
+    let mut command = Command::new(env!("CARGO_BIN_EXE_trail"));
+    let child = command.args(arguments).stdin(Stdio::null()).stdout(output).stderr(Stdio::piped()).spawn();
+    child.and_then(|child| child.wait_with_output()).expect("the program runs")
+}
+
+/// Runs the program on a file of these bytes, which it must leave; what it prints and its status.
+fn printed(name: &str, bytes: &[u8], w: &str) -> (String, Option<i32>) {
+    let path = stored(name, bytes);
+    let written = std::fs::metadata(&path).and_then(|data| data.modified()).expect("the file's time");
+    let output = run_to(&[path.as_os_str(), OsStr::new(w)], Stdio::piped());
+    assert_eq!(std::fs::read(&path).expect("the file can be read"), bytes);
+    assert_eq!(std::fs::metadata(&path).and_then(|data| data.modified()).expect("the file's time"), written);
+    assert_eq!(String::from_utf8_lossy(&output.stderr), "");
+    (String::from_utf8(output.stdout).expect("what is printed is text"), output.status.code())
+}
+
+#[test]
+fn it_prints_each_frame_and_the_largest_count() {
+    let lines = "31 76 user 11 10 1\n13 18 extra 2 1 5\n0 13 user 0 1 1\nlargest count 1\n";
+    for w in ["1", "2", "3", "64", "064"] {
+        assert_eq!(printed(&format!("whole-{w}"), &sample(), w), (lines.to_string(), Some(0)));
+    }
+    assert_eq!(printed("empty", &[], "1"), ("largest count 0\n".to_string(), Some(0)));
+}
+
+#[test]
+fn it_says_where_a_damaged_trail_stops() {
+    let mut trail = sample();
+    trail[20] ^= 1;
+    let lines = "31 76 user 11 10 1\nR 19 at byte 31: no sound frame ends there\n";
+    assert_eq!(printed("changed", &trail, "5"), (lines.to_string(), Some(1)));
+    let cut = &sample()[..40];
+    assert_eq!(printed("cut", cut, "5"), ("R 19 at byte 40: no sound frame ends there\n".to_string(), Some(1)));
+    let front = [b"abc", &sample()[..]].concat();
+    assert!(printed("front", &front, "5").0.ends_with("3 13 user 0 1 1\nR 19 at byte 3: no sound frame ends there\n"));
+}
+
+#[test]
+fn it_refuses_a_window_out_of_range() {
+    for w in ["0", "65", "18446744073709551615"] {
+        let line = "R 19 before the first frame: W is not 1 to 64\n";
+        assert_eq!(printed(&format!("window-{w}"), &sample(), w), (line.to_string(), Some(1)));
+    }
+}
+
+/// That the program refused these arguments with these words.
+fn assert_refused(arguments: &[&OsStr], words: &str) {
+    let output = run_to(arguments, Stdio::piped());
+    let message = String::from_utf8_lossy(&output.stderr);
+    assert!(message.starts_with("trail: ") && message.contains(words), "{arguments:?}: {message}");
+    assert!(output.stdout.is_empty(), "{arguments:?}: something was printed");
+    assert_eq!(output.status.code(), Some(2), "{arguments:?}");
+}
+
+#[test]
+fn it_refuses_bad_arguments_with_its_usage() {
+    let path = stored("arguments", &sample());
+    let path = path.as_os_str();
+    for arguments in [&[][..], &[path], &[path, OsStr::new("1"), OsStr::new("1")]] {
+        assert_refused(arguments, "there are not two arguments\nusage: trail FILE W");
+    }
+    for w in ["", "x", "-1", "1.5", "18446744073709551616"] {
+        assert_refused(&[path, OsStr::new(w)], &format!("W is not a number: {w}\nusage: trail FILE W"));
+    }
+}
+
+#[test]
+fn it_says_what_cannot_be_read_or_written() {
+    let w = OsStr::new("1");
+    assert_refused(&[OsStr::new("no/such/file"), w], "no/such/file cannot be read");
+    assert_refused(&[OsStr::new(env!("CARGO_TARGET_TMPDIR")), w], "cannot be read");
+    let path = stored("output", &sample());
+    let full = File::options().write(true).open("/dev/full").expect("a device that takes nothing");
+    let read_only = File::open("/dev/null").expect("a device that is open for reading alone");
+    for output in [full, read_only] {
+        let output = run_to(&[path.as_os_str(), w], output.into());
+        assert!(String::from_utf8_lossy(&output.stderr).contains("the output cannot be written"));
+        assert_eq!(output.status.code(), Some(2));
+    }
+}
