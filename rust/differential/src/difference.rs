@@ -53,13 +53,18 @@ fn write_call(f: &mut Formatter<'_>, call: &Call) -> fmt::Result {
         Call::Yard { input } | Call::Load { input } => {
             writeln!(f, "  {}: {:?}", call.name(), String::from_utf8_lossy(input))
         }
+        Call::Write { used, frame } => {
+            writeln!(f, "  write: {used} in use, frame of {}: {}", frame.len(), hex(frame))
+        }
+        Call::Walk { file, w } => writeln!(f, "  walk: w {w}, file of {}: {}", file.len(), hex(file)),
+        Call::Step { file, cursor } => writeln!(f, "  step: {cursor:?}, file of {}: {}", file.len(), hex(file)),
     }
 }
 
 /// The lent buffers as they were before the call.
 fn write_buffers(f: &mut Formatter<'_>, buffers: &Buffers) -> fmt::Result {
-    let Buffers { shelf, out, body_out } = buffers;
-    for (name, bytes) in [("shelf", shelf), ("frame output", out), ("body output", body_out)] {
+    let Buffers { shelf, out, body_out, file } = buffers;
+    for (name, bytes) in [("shelf", shelf), ("frame output", out), ("body output", body_out), ("file", file)] {
         writeln!(f, "  {name} of {}: {}", bytes.len(), hex(bytes))?;
     }
     Ok(())

@@ -1,5 +1,5 @@
-//! The proved node beside the second implementation, call by call: answer, record and every byte of every buffer; and
-//! the programs beside it, input by input.
+//! The proved node and trail beside the second implementation, call by call: answer, record and every byte of every
+//! buffer; and the programs beside it, input by input.
 #![forbid(unsafe_code)]
 
 pub mod arguments;
@@ -12,6 +12,7 @@ pub mod printed;
 pub mod program;
 pub mod run;
 pub mod stored;
+pub mod trails;
 
 pub use difference::Difference;
 pub use pair::{compare, Lent};

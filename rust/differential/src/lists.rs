@@ -250,7 +250,10 @@ impl Pairs {
         let lent = |shelf: &[u8]| match &call {
             Call::Send { .. } => Buffers { out: vec![FILL; OUTPUT], ..Buffers::default() },
             Call::Offer { .. } => Buffers { shelf: shelf.to_vec(), ..Buffers::default() },
-            _ => Buffers { shelf: shelf.to_vec(), out: vec![FILL; OUTPUT], body_out: vec![FILL; Record::BODY] },
+            _ => {
+                let (out, body_out) = (vec![FILL; OUTPUT], vec![FILL; Record::BODY]);
+                Buffers { shelf: shelf.to_vec(), out, body_out, ..Buffers::default() }
+            }
         };
         let (case_buffers, mut buffers, image) = (lent(&seat.shelf), lent(&seat.lent_shelf), seat.image);
         let case = Case { record: seat.record, call: call.clone(), buffers: case_buffers };

@@ -15,9 +15,9 @@ pub struct Lent {
     pub kept: bool,
 }
 
-/// Runs a call of the proved node over an image and the buffers; the yard and the load are no calls of it.
+/// Runs a call of the proved node over an image and the buffers; the yard, the load and the trail's are no calls of it.
 pub fn run_lent(mut image: Image, call: &Call, buffers: &mut Buffers) -> Lent {
-    let Buffers { shelf, out, body_out } = buffers;
+    let Buffers { shelf, out, body_out, .. } = buffers;
     let (answer, kept) = match call {
         Call::SetUp { me, n, cap } => {
             let status = lent::set_up(&mut image, *me, *n, *cap);
@@ -42,7 +42,7 @@ pub fn run_lent(mut image: Image, call: &Call, buffers: &mut Buffers) -> Lent {
             let none = status != 0 || values[0] != 0 || values == [0, 0, 0, values[3], 0, 0, 0];
             (Answer::Deliver(linked::deliver_answer(status, values)), kept(status, &values) && none)
         }
-        Call::Yard { .. } | Call::Load { .. } => panic!("{} is no call of the node", call.name()),
+        _ => panic!("{} is no call of the node", call.name()),
     };
     Lent { answer, image, kept }
 }
@@ -66,7 +66,7 @@ pub fn judge(case: &Case, found: &Lent, buffers: &Buffers) -> Result<Outcome, Bo
     if expected.answer != found.answer {
         parts.push(format!("answer: reference {:?}, proved {:?}", expected.answer, found.answer));
     }
-    let Buffers { shelf, out, body_out } = &expected.buffers;
+    let Buffers { shelf, out, body_out, .. } = &expected.buffers;
     differ(&mut parts, "image", &expected.record.to_image(), &found.image);
     differ(&mut parts, "shelf", shelf, &buffers.shelf);
     differ(&mut parts, "frame output", out, &buffers.out);
@@ -78,7 +78,7 @@ pub fn judge(case: &Case, found: &Lent, buffers: &Buffers) -> Result<Outcome, Bo
 }
 
 /// Notes where two runs of bytes differ.
-fn differ(parts: &mut Vec<String>, name: &str, expected: &[u8], found: &[u8]) {
+pub fn differ(parts: &mut Vec<String>, name: &str, expected: &[u8], found: &[u8]) {
     if expected != found {
         let places: Vec<usize> = (0..expected.len().min(found.len())).filter(|k| expected[*k] != found[*k]).collect();
         let (first, last) = (places.first().copied().unwrap_or(0), places.last().copied().unwrap_or(0));

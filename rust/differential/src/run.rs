@@ -3,15 +3,17 @@
 use crate::crafted::Crafted;
 use crate::printed::{compare_load, compare_yard};
 use crate::program::Programs;
+use crate::trails::compare_trail;
 use crate::{compare, Difference};
 use generate::counts::Counts;
 use generate::{Call, Case, Generator};
 
-/// How many calls and inputs of the programs were compared and what they answered; inputs of a program that is not
-/// named are left out.
+/// How many calls of the node and of the trail and inputs of the programs were compared and what they answered; inputs
+/// of a program that is not named are left out.
 #[derive(Clone, Debug, Default)]
 pub struct Tally {
     pub calls: usize,
+    pub trails: usize,
     pub yards: usize,
     pub loads: usize,
     pub left_out: usize,
@@ -52,6 +54,9 @@ impl Tally {
             }
             (Call::Yard { input }, Some(program), _) => (compare_yard(case, program, input)?, &mut self.yards),
             (Call::Load { input }, _, Some(program)) => (compare_load(case, program, input)?, &mut self.loads),
+            (Call::Write { .. } | Call::Walk { .. } | Call::Step { .. }, ..) => {
+                (compare_trail(case)?, &mut self.trails)
+            }
             _ => (compare(case)?, &mut self.calls),
         };
         *count += 1;

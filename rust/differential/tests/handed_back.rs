@@ -41,7 +41,7 @@ fn any_frame(random: &mut Random, record: &Record) -> Vec<u8> {
 fn after(random: &mut Random, state: State, counts: &mut Counts) -> State {
     let call = any_call(random, &state.record);
     let out = vec![0; OUTPUT - usize::from(random.once_in(20))];
-    let buffers = Buffers { shelf: state.shelf, out, body_out: vec![0; Record::BODY] };
+    let buffers = Buffers { shelf: state.shelf, out, body_out: vec![0; Record::BODY], ..Buffers::default() };
     let case = Case { record: state.record, call, buffers };
     let outcome = compare(&case).unwrap_or_else(|difference| panic!("{difference}"));
     counts.add(&case, &outcome);

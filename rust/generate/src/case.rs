@@ -1,5 +1,7 @@
 //! A case: a record, a call and the buffers lent to it, and what comes of it.
 
+use reference::cursor::Cursor;
+use reference::trail::{back, walk, write, WINDOWS};
 use reference::{deliver, load, offer, send, set_up, yard, DeliverAnswer, OfferAnswer, Record, Refusal, SendAnswer};
 
 /// A call with its numbers and the bytes that it only reads.
@@ -11,6 +13,9 @@ pub enum Call {
     Deliver,
     Yard { input: Vec<u8> },
     Load { input: Vec<u8> },
+    Write { used: usize, frame: Vec<u8> },
+    Walk { file: Vec<u8>, w: usize },
+    Step { file: Vec<u8>, cursor: Cursor },
 }
 
 /// The buffers that a call may write, each empty where the call is not lent it.
@@ -22,9 +27,11 @@ pub struct Buffers {
     pub out: Vec<u8>,
     /// Body output (deliver).
     pub body_out: Vec<u8>,
+    /// The trail's file (write).
+    pub file: Vec<u8>,
 }
 
-/// One call with all that goes into it; set-up, the yard and the load do not look at the record.
+/// One call with all that goes into it; set-up, the yard, the load and the trail's calls do not look at the record.
 #[derive(Clone, Debug, PartialEq, Eq)]
 pub struct Case {
     pub record: Record,
@@ -41,6 +48,29 @@ pub enum Answer {
     Deliver(DeliverAnswer),
     Yard(Vec<u8>),
     Load(Vec<u8>),
+    /// The number in use after it.
+    Write(Result<usize, Refusal>),
+    Walk(Walked),
+    /// The frame that is shown, or nothing at the start.
+    Step(Result<Option<Stepped>, Refusal>),
+}
+
+/// What a walk comes to.
+#[derive(Clone, Debug, PartialEq, Eq)]
+pub struct Walked {
+    /// Start and length of each frame shown, the last first.
+    pub shown: Vec<(usize, usize)>,
+    /// The largest count.
+    pub most: Result<usize, Refusal>,
+}
+
+/// A frame that a step shows, and the cursor after it.
+#[derive(Clone, Copy, Debug, PartialEq, Eq)]
+pub struct Stepped {
+    pub start: usize,
+    pub length: usize,
+    pub is_extra: bool,
+    pub cursor: Cursor,
 }
 
 /// The answer, the record that comes back, and every lent buffer afterwards.
@@ -61,6 +91,9 @@ impl Call {
             Call::Deliver => "deliver",
             Call::Yard { .. } => "yard",
             Call::Load { .. } => "load",
+            Call::Write { .. } => "write",
+            Call::Walk { .. } => "walk",
+            Call::Step { .. } => "step",
         }
     }
 }
@@ -72,7 +105,10 @@ impl Answer {
             Answer::SetUp(Err(number))
             | Answer::Send(SendAnswer::Refused(number))
             | Answer::Offer(OfferAnswer::Refused(number))
-            | Answer::Deliver(DeliverAnswer::Refused(number)) => *number,
+            | Answer::Deliver(DeliverAnswer::Refused(number))
+            | Answer::Write(Err(number))
+            | Answer::Walk(Walked { most: Err(number), .. })
+            | Answer::Step(Err(number)) => *number,
             _ => 0,
         }
     }
@@ -87,6 +123,11 @@ impl Answer {
 }
 
 impl Case {
+    /// The case of a call that looks at no record and is lent no buffers.
+    pub fn alone(call: Call) -> Case {
+        Case { record: Record::ZERO, call, buffers: Buffers::default() }
+    }
+
     /// Runs the case on the reference.
     pub fn run(&self) -> Outcome {
         let mut buffers = self.buffers.clone();
@@ -96,7 +137,7 @@ impl Case {
 
     /// Runs the case on the reference with these buffers, which have to be its own.
     fn run_with(&self, buffers: &mut Buffers) -> (Answer, Record) {
-        let Buffers { shelf, out, body_out } = buffers;
+        let Buffers { shelf, out, body_out, file } = buffers;
         let record = self.record;
         match &self.call {
             Call::SetUp { me, n, cap } => wrap(Answer::SetUp, set_up(*me, *n, *cap)),
@@ -105,8 +146,28 @@ impl Case {
             Call::Deliver => wrap(Answer::Deliver, deliver(record, shelf, out, body_out)),
             Call::Yard { input } => (Answer::Yard(yard(input)), record),
             Call::Load { input } => (Answer::Load(load(input)), record),
+            Call::Write { used, frame } => (Answer::Write(write(file, *used, frame)), record),
+            Call::Walk { file, w } => (Answer::Walk(walked(file, *w)), record),
+            Call::Step { file, cursor } => (Answer::Step(stepped(file, cursor)), record),
         }
     }
+}
+
+/// What the reference's walk comes to; w is looked at before the first frame.
+fn walked(file: &[u8], w: usize) -> Walked {
+    let frames = back(file).map_while(Result::ok).take_while(|_| WINDOWS.contains(&w));
+    Walked { shown: frames.map(|shown| (shown.start, shown.length())).collect(), most: walk(file, w) }
+}
+
+/// What the reference's step comes to.
+pub fn stepped(file: &[u8], cursor: &Cursor) -> Result<Option<Stepped>, Refusal> {
+    let frame = cursor.step(file)?;
+    Ok(frame.map(|(shown, cursor)| Stepped {
+        start: shown.start,
+        length: shown.length(),
+        is_extra: shown.is_extra(),
+        cursor,
+    }))
 }
 
 /// Names an answer's call.

@@ -72,6 +72,9 @@ fn taken_label(answer: &Answer) -> String {
         Answer::Deliver(DeliverAnswer::Delivered(delivery)) => {
             format!("kind {}, {} extras", delivery.kind, delivery.extras)
         }
+        Answer::Step(Ok(None)) => "the start".to_string(),
+        Answer::Step(Ok(Some(frame))) if frame.is_extra => "an extra frame".to_string(),
+        Answer::Step(_) => "a user frame".to_string(),
         _ => "taken".to_string(),
     }
 }

@@ -3,6 +3,7 @@
 use crate::case::{Buffers, Call, Case};
 use crate::records::{any_cap, any_n};
 use crate::states::{any_state, parted_state, reach_limit, Runner, State};
+use crate::trails::Trails;
 use crate::{frames, loads, records, shelves, yards};
 use reference::node::OUTPUT;
 use reference::random::Random;
@@ -13,6 +14,7 @@ use reference::{shelf, Record};
 pub struct Generator {
     random: Random,
     runner: Runner,
+    trails: Trails,
 }
 
 impl Generator {
@@ -20,18 +22,19 @@ impl Generator {
     pub fn new(seed: u64) -> Generator {
         let mut random = Random::new(seed);
         let runner = Runner::start(&mut random);
-        Generator { random, runner }
+        Generator { random, runner, trails: Trails::new(seed) }
     }
 
     /// The next case, of any call.
     pub fn case(&mut self) -> Case {
-        match self.random.below(100) {
+        match self.random.below(108) {
             0..=3 => self.set_up(),
             4..=27 => self.send(),
             28..=74 => self.offer(),
             75..=95 => self.deliver(),
             96 | 97 => self.yard(),
-            _ => self.load(),
+            98 | 99 => self.load(),
+            _ => self.trail(),
         }
     }
 
@@ -65,7 +68,7 @@ impl Generator {
             numbers[index] = bounds[index];
         }
         let [me, n, cap] = numbers;
-        alone(Call::SetUp { me, n, cap })
+        Case::alone(Call::SetUp { me, n, cap })
     }
 
     /// A send with any of its checks met at times.
@@ -103,19 +106,19 @@ impl Generator {
     /// A yard with any input.
     pub fn yard(&mut self) -> Case {
         let input = yards::any_input(&mut self.random);
-        alone(Call::Yard { input })
+        Case::alone(Call::Yard { input })
     }
 
     /// A load with any input.
     pub fn load(&mut self) -> Case {
         let input = loads::any_input(&mut self.random);
-        alone(Call::Load { input })
+        Case::alone(Call::Load { input })
     }
-}
 
-/// The case of a call that looks at no record and is lent no buffers.
-fn alone(call: Call) -> Case {
-    Case { record: Record::ZERO, call, buffers: Buffers::default() }
+    /// A call of the trail.
+    pub fn trail(&mut self) -> Case {
+        self.trails.case()
+    }
 }
 
 /// Damages the record once in so many times.
@@ -192,7 +195,7 @@ fn any_buffers(random: &mut Random, mut shelf: Vec<u8>) -> Buffers {
     if random.once_in(25) {
         shelf.resize(random.pick(&[0, 1, Record::FRAME, shelf::LENGTH - 1, shelf::LENGTH + 1, shelf::LENGTH + 802]), 0);
     }
-    Buffers { shelf, out: any_output(random), body_out: any_body_output(random) }
+    Buffers { shelf, out: any_output(random), body_out: any_body_output(random), ..Buffers::default() }
 }
 
 /// A frame to offer: issued in the list, sound, held already, or damaged.

@@ -10,7 +10,8 @@ pub mod records;
 pub mod shelves;
 pub mod states;
 pub mod texts;
+pub mod trails;
 pub mod yards;
 
-pub use case::{Answer, Buffers, Call, Case, Outcome};
+pub use case::{Answer, Buffers, Call, Case, Outcome, Stepped, Walked};
 pub use generator::Generator;

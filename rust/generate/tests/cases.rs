@@ -1,19 +1,25 @@
 //! What holds of the generated cases, and how often each refusal is met.
 
 use generate::counts::Counts;
+use generate::trails::{fault, Trails};
 use generate::{frames, loads, records, shelves, states, Call, Case, Generator, Outcome};
 use reference::frame::Frame;
 use reference::random::Random;
+use reference::trail::back;
 use reference::{shelf, Record};
+use std::collections::BTreeMap;
 
 /// The checks of each call.
-const CHECKS: [(&str, &[u8]); 6] = [
+const CHECKS: [(&str, &[u8]); 9] = [
     ("set-up", &[1]),
     ("send", &[2, 3, 5, 6, 7]),
     ("offer", &[2, 3, 4, 8, 9, 10, 11, 12, 13, 14, 15, 16]),
     ("deliver", &[2, 3, 4, 5]),
     ("yard", &[6, 14, 15, 16, 17]),
     ("load", &[18]),
+    ("write", &[3, 19]),
+    ("walk", &[19]),
+    ("step", &[19]),
 ];
 
 /// A refusal leaves record and buffers, and another answer gives a sound record and shelf.
@@ -23,10 +29,13 @@ fn check_outcome(case: &Case, outcome: &Outcome) {
         Call::Yard { .. } | Call::Load { .. } => (),
         Call::SetUp { .. } if refused => assert_eq!(outcome.record, Record::ZERO),
         _ if refused => assert_eq!((outcome.record, &outcome.buffers), (case.record, &case.buffers)),
-        Call::Offer { .. } | Call::Deliver => assert_eq!(shelf::check(&outcome.buffers.shelf, &outcome.record), Ok(())),
-        _ => (),
+        Call::SetUp { .. } | Call::Send { .. } => assert!(outcome.record.keeps_rules()),
+        Call::Offer { .. } | Call::Deliver => {
+            assert!(outcome.record.keeps_rules());
+            assert_eq!(shelf::check(&outcome.buffers.shelf, &outcome.record), Ok(()));
+        }
+        Call::Write { .. } | Call::Walk { .. } | Call::Step { .. } => assert_eq!(outcome.record, case.record),
     }
-    assert!(refused || outcome.answer.printed().is_some() || outcome.record.keeps_rules());
 }
 
 #[test]
@@ -136,4 +145,21 @@ fn load_lines_are_valid_or_damaged() {
     }
     let damaged = (0..3_000).filter(|_| reference::load(&loads::any_input(&mut random)) == b"R 18\n").count();
     assert!((850..1_150).contains(&damaged), "{damaged} of 3,000 are damaged");
+}
+
+#[test]
+fn trails_are_whole_or_damaged_in_every_way() {
+    let mut trails = Trails::new(16);
+    let mut met = BTreeMap::<_, usize>::new();
+    for _ in 0..5_000 {
+        let frames = trails.frames();
+        assert!(frames.iter().all(|frame| Frame::check_alone(frame).is_ok()));
+        let file = trails.file();
+        let last = back(&file).map_while(Result::ok).last().map_or(file.len(), |shown| shown.start);
+        let ends = if last == 0 { "the start" } else { fault(&file[..last]).expect("the walk stopped here") };
+        *met.entry(ends).or_default() += 1;
+    }
+    println!("{met:#?}");
+    assert_eq!(met.len(), 8);
+    assert!(met.iter().all(|(_, count)| *count > 50) && met["the start"] > 2_500, "{met:?}");
 }
