@@ -31,13 +31,17 @@ fn frame_of_802() -> Vec<u8> {
     draft(USER, 0, 5, 12, 144, &places, &[0xFF; 64]).bytes()
 }
 
-/// The places that a walk shows, and what it ends with.
+/// The places that a walk shows, and what it ends with; nothing comes after a refusal.
 fn shown(file: &[u8]) -> (Vec<(usize, usize)>, Result<(), Refusal>) {
     let mut places = Vec::new();
-    for shown in back(file) {
+    let mut frames = back(file);
+    while let Some(shown) = frames.next() {
         match shown {
             Ok(shown) => places.push((shown.start, shown.length())),
-            Err(number) => return (places, Err(number)),
+            Err(number) => {
+                assert!(frames.next().is_none());
+                return (places, Err(number));
+            }
         }
     }
     (places, Ok(()))
