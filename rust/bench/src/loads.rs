@@ -1,13 +1,9 @@
 //! The whole load, a line in and the table out, on both sides in turn.
 
-use crate::measure::{is_wanted, median, nanoseconds};
+use crate::measure::{is_wanted, row, ROUNDS};
 use linked::load::OUTPUT;
 use std::hint::black_box;
 
-/// Loads of each side, in turn.
-const ROUNDS: usize = 51;
-/// Loads before these that are not counted.
-const WARM_UP: usize = 5;
 /// The seed of the loads.
 const SEED: u32 = 1;
 /// The draws of the loads.
@@ -19,12 +15,12 @@ pub fn table() {
     println!("| load | proved | reference | ratio |");
     println!("|---|---|---|---|");
     for n in 2..=4 {
-        row(n);
+        load_row(n);
     }
 }
 
 /// One row: the proved load and the reference, which must print the same.
-fn row(n: usize) {
+fn load_row(n: usize) {
     let name = format!("load, n {n}, {DRAWS} draws");
     if !is_wanted(&name) {
         return;
@@ -33,15 +29,5 @@ fn row(n: usize) {
     let mut out = vec![0; OUTPUT];
     let count = linked::load(&input, &mut out);
     assert!(out[..count] == reference::load(&input), "{name}: the sides print different tables");
-    let mut times = [Vec::new(), Vec::new()];
-    for round in 0..WARM_UP + ROUNDS {
-        let proved = nanoseconds(|| linked::load(black_box(&input), &mut out));
-        let reference = nanoseconds(|| reference::load(black_box(&input)));
-        if round >= WARM_UP {
-            times[0].push(proved);
-            times[1].push(reference);
-        }
-    }
-    let [proved, reference] = times.map(median);
-    println!("| {name} | {proved:.0} | {reference:.0} | {:.2} |", proved / reference);
+    row(&name, || linked::load(black_box(&input), &mut out), || reference::load(black_box(&input)));
 }

@@ -3,12 +3,13 @@
 //! Both sides go from a record's image in bytes to the next one: the proved node over the lent image, the reference by
 //! reading it, its call by value, and writing it back. The last column is the reference's call alone, on a record that
 //! is read already. A round runs each side on COPIES copies of the state, which are restored between rounds and not
-//! timed; outputs are not cleared between calls. A table of its own has the whole load, which has no image. An argument
-//! is a part of the names of the rows to run.
+//! timed; outputs are not cleared between calls. Tables of their own have the whole load and the trail, which have no
+//! image. An argument is a part of the names of the rows to run.
 
 mod loads;
 mod measure;
 mod states;
+mod trails;
 
 use linked::lent::{self, Image};
 use measure::{is_wanted, median, nanoseconds};
@@ -200,4 +201,5 @@ fn main() {
         deliver_row(&format!("deliver, n {n}, cap {n}, 1 held, extras issued"), &states::trims(n));
     }
     loads::table();
+    trails::table();
 }
