@@ -5,7 +5,7 @@ use crate::frames;
 use crate::records::any_record;
 use reference::cursor::Cursor;
 use reference::draft::{repair, Draft};
-use reference::frame::{Frame, EXTRA, USER};
+use reference::frame::{Frame, EXTRA, TRAILER, USER};
 use reference::random::Random;
 use reference::trail::back;
 use reference::Record;
@@ -143,9 +143,10 @@ fn any_draft(random: &mut Random) -> Draft {
 /// Bytes of a frame that mostly is not sound on its own.
 fn bad(random: &mut Random) -> Vec<u8> {
     let record = any_record(random);
-    match random.below(8) {
+    match random.below(9) {
         0 | 1 => out_of_range(random),
-        2 => {
+        2 => stretched(random),
+        3 => {
             let mut bytes = frames::damaged(random, &record, 11);
             frames::damage_byte(random, &mut bytes, true);
             bytes
@@ -155,6 +156,14 @@ fn bad(random: &mut Random) -> Vec<u8> {
             frames::damaged(random, &record, check)
         }
     }
+}
+
+/// A frame with zeros put in front of its trailer, so that its sum and what its count says of e and b stay right.
+fn stretched(random: &mut Random) -> Vec<u8> {
+    let mut bytes = any_draft(random).bytes();
+    let at = bytes.len() - TRAILER;
+    bytes.splice(at..at, vec![0; random.within(1, 3)]);
+    bytes
 }
 
 /// A frame whose n or cap is out of range and that breaks no other rule where that can be.

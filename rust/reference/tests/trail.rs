@@ -196,6 +196,10 @@ fn either_trailer_field_wrong() {
         assert_eq!(shown(&wrong), (vec![], Err(19)), "{by}");
         assert!(!is_taken(&wrong[1..]), "{by}");
     }
+    // A zero in front of the trailer, so that the sum stays right and the count is right for e and b.
+    let stretched = [&bytes[..9], &[0], &bytes[9..]].concat();
+    assert_eq!(write(&mut [FILL; 40], 0, &stretched), Err(19));
+    assert_eq!(shown(&stretched), (vec![], Err(19)));
 }
 
 #[test]
