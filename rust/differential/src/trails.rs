@@ -94,7 +94,7 @@ pub fn reference_step(file: &[u8], cursor: Numbers) -> Step {
     }
 }
 
-/// The steps of a walk from its start to the first that shows nothing, and not more than a file of this length can have.
+/// The steps of a walk from its start to the first that shows nothing, and no more than a file of this length can have.
 pub fn steps(file: &[u8], w: usize, step: fn(&[u8], Numbers) -> Step) -> Vec<Step> {
     let mut cursor = lent::start(file, w);
     let mut steps = Vec::new();

@@ -1,5 +1,5 @@
-//! The trail on both implementations: generated writes, walks and steps, damage at every byte and bit, every window; and
-//! what the proved side answers held against what a trail is to show.
+//! The trail on both implementations: generated writes, walks and steps, damage at every byte and bit, every window;
+//! and what the proved side answers held against what a trail is to show.
 
 use differential::trails::{class, compare_trail};
 use generate::trails::Trails;

@@ -1,4 +1,4 @@
-//! Cases for differential tests of the causal node: sound, damaged and at every bound, from a seed.
+//! Cases for differential tests of the causal node and the trail: sound, damaged and at every bound, from a seed.
 #![forbid(unsafe_code)]
 
 pub mod case;

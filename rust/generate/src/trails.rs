@@ -1,4 +1,4 @@
-//! Trails: whole ones, damaged ones and bytes that are none; writes to their files, and walks with any window or cursor.
+//! Trails: whole ones, damaged ones and bytes that are none; writes to their files, walks with any window or cursor.
 
 use crate::case::{Buffers, Call, Case};
 use crate::frames;
@@ -193,7 +193,7 @@ fn with_bad_frame(random: &mut Random, mut frames: Vec<Vec<u8>>) -> Vec<u8> {
     frames.concat()
 }
 
-/// Damages a trail's bytes in one of five ways: cut at its end or its start, bits flipped, bytes put in front or behind.
+/// Damages a trail's bytes in one of five ways: cut at its end or start, bits flipped, bytes put in front or behind.
 fn damage(random: &mut Random, file: &mut Vec<u8>, way: usize) {
     let few = random.within(1, 13).min(file.len());
     match way {

@@ -33,8 +33,8 @@ pub fn write(file: &mut [u8], used: &mut usize, frame: &[u8]) -> Result<(), Refu
     answer(lent::write(file, used, frame))
 }
 
-/// The largest count of extra frames in any window of w successive frames (1 to 64) of a file; 19 when w is out of range
-/// or the file is damaged.
+/// The largest count of extra frames in any window of w successive frames (1 to 64) of a file; 19 when w is out of
+/// range or the file is damaged.
 pub fn largest(file: &[u8], w: usize) -> Result<usize, Refusal> {
     let mut most = 0;
     answer(lent::walk(file, w, &mut most)).map(|()| most)
@@ -76,7 +76,7 @@ impl<'a> Walk<'a> {
         Walk { file, cursor: lent::start(file, w), state: State::Going }
     }
 
-    /// How many bytes lie in front of where the walk stands; after a refusal, in front of the end of what is no frame.
+    /// How many bytes are left in front of where the walk stands; after a refusal no sound frame ends there.
     pub fn left(&self) -> usize {
         self.cursor[0] as usize
     }

@@ -1,8 +1,8 @@
 //! Compares the proved node and trail with the reference: `compare CALLS SEED [YARD [LOAD]]`.
 //!
-//! CALLS generated and crafted calls from the seed, the trail's among them, then a hostile list for each thousand calls.
-//! YARD and LOAD are the paths of the compiled yard and load; the inputs of one that is not named are left out. A bad
-//! argument is refused with the usage line.
+//! CALLS generated and crafted calls from the seed, the trail's among them, then a hostile list for each thousand
+//! calls. YARD and LOAD are the paths of the compiled yard and load; the inputs of one that is not named are left out.
+//! A bad argument is refused with the usage line.
 
 use differential::arguments::{Arguments, USAGE};
 use differential::hostile::hostile;
@@ -47,9 +47,7 @@ fn run_calls(calls: usize, seed: u64, programs: &Programs, start: Instant) {
     if left_out > 0 {
         println!("{left_out} yard or load inputs left out: no program named");
     }
-    println!(
-        "{calls} calls of the node, {trails} of the trail, {yards} yard inputs, {loads} load inputs compared, no difference"
-    );
+    println!("{calls} node calls, {trails} trail calls, {yards} yard and {loads} load inputs compared, no difference");
 }
 
 /// Hostile lists, each from a seed of its own.
