@@ -10,7 +10,8 @@ use lib.ListN.{drop, length, length-drop, take, take-append-drop}
 use lib.Seq.{take-all}
 use Rattle.trail.proofs.Lone.{either-first, either-second, neither}
 use Rattle.trail.specs.Sound.{unsound}
-use Rattle.trail.specs.Walk.{badEnd, lastFrame, lastLength, lastStart, soundLast}
+use Rattle.trail.specs.SoundLast.{soundLast}
+use Rattle.trail.specs.Walk.{badEnd, lastFrame, lastLength, lastStart}
 
 -- too short for a trailer
 pub bad-short : (s : List ℕ) → length s < 4 → badEnd s ≡ true

@@ -17,7 +17,8 @@ use Rattle.trail.proofs.Lone.{neither}
 use Rattle.trail.specs.Cursor.{passing, wrongWindow}
 use Rattle.trail.specs.Sound.{extraBit}
 use Rattle.trail.specs.Step.{stepAt, stepCall}
-use Rattle.trail.specs.Walk.{badEnd, lastFrame, lastLength, lastStart, soundLast}
+use Rattle.trail.specs.SoundLast.{soundLast}
+use Rattle.trail.specs.Walk.{badEnd, lastFrame, lastLength, lastStart}
 use Rattle.trail.specs.declared.walk.Cursor.{Cursor}
 use Rattle.trail.specs.declared.walk.StepAnswer.the-variants as stepAnswer
 

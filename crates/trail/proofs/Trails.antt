@@ -8,6 +8,7 @@ use native.Mathlib.Omega.{arith}
 use borrow.Author.Tests.{le-ltb}
 use lib.ListN.{length, length-append, take}
 use Rattle.trail.proofs.Ends.{good, split-last}
+use Rattle.trail.proofs.StepsWalk.{steps-walk}
 use Rattle.trail.proofs.Walks.{goes-on, shorter, walk-over, walk-stops, walkFrom}
 use Rattle.trail.specs.Sound.{extraBit, unsound}
 use Rattle.trail.specs.Trail.{placesBack, trailOf}
@@ -56,6 +57,7 @@ written file l h r =
       inUse = put-back file 0 (trailOf l) (omega arith);
       shows = shows-all l h;
       answers = λ w e. rw (e, shows-all l h);
+      steps = λ w k e i. steps-walk .all (trailOf l) w k i ∙ rw (e, shows-all l h);
     }
 
 -- what a walk leaves and the sound frames behind that

@@ -1,6 +1,6 @@
 -- To believe, in this order: Sound, a frame on its own; Trail, frames end to end and where each is; Windows, the largest count by its plain definition;
--- Walk, what the walk shows and answers; Cursor and Step, the walk in steps, with what a cursor carries along; Write, one frame written on.
--- Proved of these: LargestMeans, StepsWalk (the steps are the walk, the carried count the plain one), Trails (written and any bytes).
+-- Cursor, what a walk carries along; Walk, what the walk shows and answers; Step, the walk in steps; Write, one frame written on. Proved of these, and to
+-- believe as statements: LargestMeans, StepsWalk, Trails, FrameAlone and Examples. SoundLast is vocabulary of an inner contract.
 pub mod Sound
 pub mod Trail
 pub mod Windows
@@ -13,3 +13,4 @@ pub mod StepsWalk
 pub mod Trails
 pub mod FrameAlone
 pub mod Examples
+pub mod SoundLast

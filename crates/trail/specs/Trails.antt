@@ -6,11 +6,13 @@ use mathlib.Core.List.{List, [], _∷_, _++_, map}
 use mathlib.Core.Path.{_≡_}
 use lib.ListN.{length, take}
 use Rattle.wire.specs.Bytes.{put}
+use Rattle.trail.specs.declared.walk.StepAnswer.the-variants as stepAnswer
 use Rattle.trail.specs.declared.walk.WalkAnswer.the-variants as walkAnswer
 use Rattle.trail.specs.declared.write.WriteAnswer.{WriteAnswer}
 use Rattle.trail.specs.declared.write.WriteAnswer.the-variants as writeAnswer
-use Rattle.trail.specs.Cursor.{wrongWindow}
+use Rattle.trail.specs.Cursor.{begun, wrongWindow}
 use Rattle.trail.specs.Sound.{extraBit, unsound}
+use Rattle.trail.specs.Step.{stepCall, stepsAfter}
 use Rattle.trail.specs.Trail.{placesBack, trailOf}
 use Rattle.trail.specs.Walk.{stops, walk, walkCall}
 use Rattle.trail.specs.Windows.{largest}
@@ -41,6 +43,10 @@ pub record WrittenTrail (file : List ℕ) (frames : List (List ℕ)) : Type 0 wh
   pub shows : walk (trailOf frames) ≡ record { shown = placesBack 0 frames []; kinds = map extraBit frames; left = [] }
   -- with any window it refuses nothing, and answers the largest count
   pub answers : (w : ℕ) → wrongWindow w ≡ false → walkCall (trailOf frames) w ≡ walkAnswer.Largest (largest w (map extraBit frames))
+  -- and so do as many steps as the trail has bytes, or more
+  pub steps : (w k : ℕ) → wrongWindow w ≡ false → length (trailOf frames) ≤ k
+      → stepsAfter k (trailOf frames) (stepCall (trailOf frames) (begun (length (trailOf frames)) w))
+      ≡ record { shown = placesBack 0 frames []; last = stepAnswer.End (largest w (map extraBit frames)) }
 
 -- the walk of any bytes
 pub record AnyBytes (file : List ℕ) : Type 0 where

@@ -28,10 +28,6 @@ lastFrame s = drop (lastStart s) s
 unfoldable pub badEnd : List ℕ → Bool
 badEnd s = ltb (length s) 4 || ltb (length s) (lastLength s) || unsound (lastFrame s)
 
--- the length of the sound frame at the end of s, and 0 where there is none
-unfoldable pub soundLast : List ℕ → ℕ
-soundLast s = cond (badEnd s) 0 (lastLength s)
-
 -- shown: the places of the frames shown, the last first; kinds: their kinds, in the file's order; left: the bytes in front of them, where the walk stopped
 pub record Walk : Type 0 where
   pub shown : List Place

@@ -1,7 +1,8 @@
 //! The walk back: a step shows the frame that ends where the cursor stands; the whole walk gives the largest count of extra frames in a window.
 ghost use mathlib.Core.Path.{_≡_};
 ghost use Rattle.trail.specs.Cursor.{begun};
-ghost use Rattle.trail.specs.Walk.{soundLast, walkCall};
+ghost use Rattle.trail.specs.SoundLast.{soundLast};
+ghost use Rattle.trail.specs.Walk.{walkCall};
 ghost use Rattle.trail.specs.Step.{stepCall};
 
 /// Frames of a window at most: as many kinds as a number of 64 bits holds.
@@ -67,6 +68,7 @@ fn sound_last(s: &[u8]) -> usize
 }
 
 /// One step of a walk over the bytes in use: w is looked at first, then whether anything is left, then the frame that ends there.
+/// Any cursor is taken; what is left is what the file has in front of its `end`.
 pub fn step(file: &[u8], c: Cursor) -> StepAnswer
     ensures { λ r. ⌜ r ≡ stepCall (now (file .entry)) c ⌝ }
 {
