@@ -10,7 +10,7 @@ use lib.ListN.{length}
 use Rattle.frame.proofs.Checks.{trailer-passed}
 use Rattle.frame.specs.Header.{header}
 use Rattle.frame.specs.Refusals.{frameRefusal, wrongAddress, wrongContent, wrongKind, wrongTrailer}
-use Rattle.trail.specs.Sound.{inOwnRange, unsound}
+use Rattle.trail.specs.Sound.{inOwnRange, kindBit, unsound}
 use Rattle.wire.specs.Trailer.{countBack}
 
 -- neither of two tests is met
@@ -33,6 +33,14 @@ either-second false b p = p
 pub short-unsound : (s : List ℕ) → length s < 12 → unsound s ≡ true
 unfolding unsound frameRefusal wrongTrailer
 short-unsound s h = either-second (not (inOwnRange (header s .n) (header s .cap))) _ (rw (lt-ltb (length s) 12 h))
+
+-- a kind's bit is at most 1
+pub bit-most : (kind : ℕ) → kindBit kind ≤ 1
+bit-most kind = go (eqb kind 2)
+  where
+    go : (b : Bool) → cond b 1 0 ≤ 1
+    go true = omega arith
+    go false = omega arith
 
 -- what 8 tells of a sound frame: its length, and the count pointed back
 pub record Lone (s : List ℕ) : Type 0 where

@@ -1,21 +1,20 @@
 -- A step, case by case, by the end that the code computes. Assumes nothing.
 use Prim.Native.Nat.{_-_, _<_, _≤_, min, ℕ}
-use mathlib.Core.Bool.{Bool, cond, false, true}
+use mathlib.Core.Bool.{false, true}
 use mathlib.Core.List.{List}
-use mathlib.Core.Path.{_∙_, _≡_, refl, sym}
-use mir.Val.{boolByte}
+use mathlib.Core.Path.{_∙_, _≡_, ap, sym}
 use native.Mathlib.Decide.{decLt}
 use native.Mathlib.Nat.{add-zero}
 use native.Mathlib.Omega.{arith}
 use borrow.Author.Tests.{eq-eqb, ltb-false, ne-eqb}
-use lib.Dec.{eqb, ltb}
+use lib.Dec.{ltb}
 use lib.ListN.{getD, length, length-take, take}
 use lib.Seq.{getD-drop, getD-take, take-all}
 use Rattle.frame.specs.Header.{header}
 use Rattle.trail.proofs.Ends.{bad-none, good, good-some, some-good}
 use Rattle.trail.proofs.Lone.{neither}
 use Rattle.trail.specs.Cursor.{passing, wrongWindow}
-use Rattle.trail.specs.Sound.{extraBit}
+use Rattle.trail.specs.Sound.{extraBit, kindBit}
 use Rattle.trail.specs.Step.{stepAt, stepCall}
 use Rattle.trail.specs.SoundLast.{soundLast}
 use Rattle.trail.specs.Walk.{badEnd, lastFrame, lastLength, lastStart}
@@ -28,15 +27,6 @@ unfolding wrongWindow
 window-range w e =
     let p = neither (ltb w 1) (ltb 64 w) e in
     (ltb-false w 1 (p .0), ltb-false 64 w (p .1))
-
--- a kind's bit as the code makes it
-pub bit-le : (b : Bool) → boolByte b ≤ 1
-bit-le true = omega arith
-bit-le false = omega arith
-
-pub bit-is : (b : Bool) → boolByte b ≡ cond b 1 0
-bit-is true = refl
-bit-is false = refl
 
 -- the front of a list up to a place behind its end is the list up to its end
 take-min : (k : ℕ) (s : List ℕ) → take (min k (length s)) s ≡ take k s
@@ -88,18 +78,18 @@ module _ (file : List ℕ) (c : Cursor) where
       start-is : lastStart (take end file) ≡ end - size
       start-is = rw (left-length, ← is-last)
 
-      kind-is : extraBit (lastFrame (take end file)) ≡ boolByte (eqb (getD file (end - size) 0) 2)
+      kind-is : extraBit (lastFrame (take end file)) ≡ kindBit (getD file (end - size) 0)
       unfolding extraBit header
       kind-is =
           let k : getD (lastFrame (take end file)) 0 0 ≡ getD file (end - size) 0 =
           getD-drop (lastStart (take end file)) (take end file) 0 0 ∙ rw (start-is, add-zero) (getD-take end file (end - size) 0 (omega (arith, size-le))) in
-          rw k (sym (bit-is (eqb (getD file (end - size) 0) 2)))
+          ap kindBit k
 
-      pub step-shown : (next : Cursor) → next ≡ passing c (end - size) (boolByte (eqb (getD file (end - size) 0) 2))
+      pub step-shown : (next : Cursor) (x : ℕ) → x ≡ kindBit (getD file (end - size) 0) → next ≡ passing c (end - size) x
           → stepAnswer.Shown (end - size) size next ≡ stepCall file c
       unfolding stepAt
-      step-shown next q =
-          rw q (sym (at-left
+      step-shown next x b q =
+          rw (q, b) (sym (at-left
           ∙ rw (
             ne-eqb (length (take end file)) 0 (λ z. h (omega (arith, size-le, left-length, z))),
             ends-well,

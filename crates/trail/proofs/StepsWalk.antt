@@ -9,6 +9,7 @@ use lib.ListN.{length, take}
 use lib.Seq.{length-take-le, take-length, take-take}
 use Rattle.trail.proofs.Carried.{Carried, carried-begun, carried-passing}
 use Rattle.trail.proofs.Ends.{good}
+use Rattle.trail.proofs.Lone.{bit-most}
 use Rattle.trail.proofs.Stepping.{window-range}
 use Rattle.trail.proofs.Walks.{enough, stops-bad, stops-not, stops-nothing, walk-stops}
 use Rattle.trail.specs.Cursor.{begun, passing, wrongWindow}
@@ -20,15 +21,6 @@ use Rattle.trail.specs.Windows.{largest}
 use Rattle.trail.specs.declared.walk.Cursor.{Cursor}
 use Rattle.trail.specs.declared.walk.StepAnswer.the-variants as stepAnswer
 use Rattle.frame.specs.Header.{header}
-
--- a kind's bit is at most 1
-bit-most : (s : List ℕ) → extraBit s ≤ 1
-unfolding extraBit
-bit-most s = go (eqb (header s .kind) 2)
-  where
-    go : (b : Bool) → cond b 1 0 ≤ 1
-    go true = omega arith
-    go false = omega arith
 
 -- the steps that a walk stands for
 abbrev stepsOf : ℕ → Walk → Steps
@@ -55,7 +47,7 @@ module _ (file : List ℕ) (w : ℕ) (in-range : wrongWindow w ≡ false) where
   -- the steps from a cursor are the walk of what is left there
   steps-from : (k : ℕ) (kinds : List ℕ) (c : Cursor) → Carried w kinds c → c .end ≤ length file → c .end ≤ k
       → stepsAfter k file (stepCall file c) ≡ stepsOf w (walkBack k (take (c .end) file) kinds)
-  unfolding stepAt stepsAfter walkBack passing
+  unfolding stepAt stepsAfter walkBack passing extraBit
   steps-from zero kinds c h i j =
       let z : c .end ≡ 0 = omega arith in
       rw (step-at c (h .window), z, h .most)
@@ -75,7 +67,7 @@ module _ (file : List ℕ) (w : ℕ) (in-range : wrongWindow w ≡ false) where
           let n = length-take-le (c .end) file i in
           let l = good s q .inside in
           let next = passing c (lastStart s) (extraBit (lastFrame s)) in
-          let moved = carried-passing w (lastStart s) (extraBit (lastFrame s)) kinds c (r .0) (r .1) (bit-most (lastFrame s)) h in
+          let moved = carried-passing w (lastStart s) (extraBit (lastFrame s)) kinds c (r .0) (r .1) (bit-most (header (lastFrame s) .kind)) h in
           let t : take (lastStart s) s ≡ take (lastStart s) file = take-take (lastStart s) (c .end) file (omega (arith, n)) in
           rw (step-at c (h .window), stops-not s p q, p, q, t)
           (ap (λ (v : Steps). record { shown = record { start = lastStart s; length = lastLength s } ∷ v .shown; last = v .last })

@@ -15,6 +15,10 @@ inOwnRange n cap = leb 2 n && leb n maxNodes && leb n cap && leb cap (n * n)
 unfoldable pub unsound : List ℕ → Bool
 unsound s = not (inOwnRange (header s .n) (header s .cap)) || not (eqb (frameRefusal (header s .n) (header s .cap) s) 0)
 
+-- 1 for the kind byte of an extra frame, 0 for a user frame's
+abbrev pub kindBit : ℕ → ℕ
+kindBit kind = cond (eqb kind 2) 1 0
+
 -- 1 for an extra frame, 0 for a user frame
 unfoldable pub extraBit : List ℕ → ℕ
-extraBit s = cond (eqb (header s .kind) 2) 1 0
+extraBit s = kindBit (header s .kind)

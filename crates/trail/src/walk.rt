@@ -84,7 +84,7 @@ pub fn step(file: &[u8], c: Cursor) -> StepAnswer
         return StepAnswer::Refused(19);
     }
     let start = end - length;
-    let next = super::cursor::pass(c, start, (file[start] == 2) as u8);
+    let next = super::cursor::pass(c, start, super::sound::extra_bit(file[start]));
     StepAnswer::Shown {
         start,
         length,

@@ -3,7 +3,8 @@ use mathlib.Core.Path.{_∙_, sym}
 use native.Mathlib.Omega.{arith}
 use borrow.Author.Needs.{needs}
 use lib.Seq.{length-take-le}
-use Rattle.trail.proofs.Stepping.{bit-le, size-le, step-bad, step-end, step-shown, step-wrong, window-range}
+use Rattle.trail.proofs.Lone.{bit-most}
+use Rattle.trail.proofs.Stepping.{size-le, step-bad, step-end, step-shown, step-wrong, window-range}
 use Rattle.trail.proofs.walk.step.Statement.{statement}
 use Rattle.trail.proofs.walk.step.Tie as tie
 
@@ -44,27 +45,28 @@ sub-start c =
     size-le _ (m .before .before .before .before .args .c) _ (sym (m .before .before .wrong-window .ensures) ∙ m .before .if1 .left) (m .smaller .ensures) _
     (l .sound-last .ensures) (c .if3 .left)
 
-shared-slice-read-pass : tie.Need-shared-slice-read-pass
-shared-slice-read-pass c =
+shared-slice-read-extra-bit : tie.Need-shared-slice-read-extra-bit
+shared-slice-read-extra-bit c =
     let l = c .before .before in
     let m = l .before .before .before in
     omega (arith, m .smaller .ensures, c .before .if3 .left)
 
-cast-pass : tie.Need-cast-pass
-cast-pass c = search needs
+extra-bit-requires : tie.Need-extra-bit-requires
+extra-bit-requires c κs = search needs
 
 pass-requires : tie.Need-pass-requires
 pass-requires c κs =
-    let m = c .before .before .before .before .before in
+    let m = c .before .before .before .before .before .before in
     let r = window-range _ (sym (m .before .before .wrong-window .ensures) ∙ m .before .if1 .left) in
-    (r .0, r .1, search bit-le)
+    (r .0, r .1, rw (c .extra-bit .ensures) (search bit-most))
 
 returns-4 : tie.Need-returns-4
 returns-4 c =
-    let l = c .before .before .before in
+    let b = c .before in
+    let l = b .before .before .before in
     let m = l .before .before .before in
     step-shown _ _ _ (sym (m .before .before .wrong-window .ensures) ∙ m .before .if1 .left) (m .smaller .ensures) _ (l .sound-last .ensures)
-    (c .before .before .if3 .left) _ (c .pass .ensures)
+    (b .before .before .if3 .left) _ _ (b .extra-bit .ensures) (c .pass .ensures)
 
 pub step-spec : {M : Type 1} → statement M
 step-spec =
@@ -78,7 +80,7 @@ step-spec =
     sound-last-requires
     returns-3
     sub-start
-    shared-slice-read-pass
-    cast-pass
+    shared-slice-read-extra-bit
+    extra-bit-requires
     pass-requires
     returns-4)
