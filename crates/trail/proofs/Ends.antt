@@ -8,7 +8,7 @@ use borrow.Author.Tests.{le-ltb, lt-ltb, ltb-false}
 use lib.Dec.{ltb}
 use lib.ListN.{drop, length, length-drop, take, take-append-drop}
 use lib.Seq.{take-all}
-use Rattle.trail.proofs.Lone.{either-first, either-second, neither}
+use Rattle.trail.proofs.Tests.{either-first, either-second, neither}
 use Rattle.trail.specs.Sound.{unsound}
 use Rattle.trail.specs.SoundLast.{soundLast}
 use Rattle.trail.specs.Walk.{badEnd, lastFrame, lastLength, lastStart}

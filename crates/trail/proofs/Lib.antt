@@ -1,4 +1,5 @@
 -- Laws of the trail's definitions, and the theorems about them.
+pub mod Tests
 pub mod Lone
 pub mod Ends
 pub mod Stepping

@@ -1,6 +1,6 @@
 -- What it tells of bytes that they are a sound frame on their own, and that fewer than 12 are none. Assumes nothing.
 use Prim.Native.Nat.{_-_, _<_, _≤_, ℕ}
-use mathlib.Core.Bool.{Bool, cond, false, not, true, _||_}
+use mathlib.Core.Bool.{Bool, cond, false, not, true}
 use mathlib.Core.List.{List}
 use mathlib.Core.Path.{_≡_, refl}
 use native.Mathlib.Omega.{arith}
@@ -10,24 +10,9 @@ use lib.ListN.{length}
 use Rattle.frame.proofs.Checks.{trailer-passed}
 use Rattle.frame.specs.Header.{header}
 use Rattle.frame.specs.Refusals.{frameRefusal, wrongAddress, wrongContent, wrongKind, wrongTrailer}
+use Rattle.trail.proofs.Tests.{either-second, neither}
 use Rattle.trail.specs.Sound.{inOwnRange, kindBit, unsound}
 use Rattle.wire.specs.Trailer.{countBack}
-
--- neither of two tests is met
-pub neither : (a b : Bool) → (a || b) ≡ false → (a ≡ false) × (b ≡ false)
-neither true b e = absurd (no-true e)
-  where
-    no-true : true ≡ false → ⊥
-    no-true p = let z : _≡_ {A = ℕ} 0 1 = cc in absurd (omega arith)
-neither false b e = (refl, e)
-
--- a test whose first part is met, or whose second is
-pub either-first : (a b : Bool) → a ≡ true → (a || b) ≡ true
-either-first a b p = rw p
-
-pub either-second : (a b : Bool) → b ≡ true → (a || b) ≡ true
-either-second true b p = refl
-either-second false b p = p
 
 -- fewer than 12 bytes meet 8
 pub short-unsound : (s : List ℕ) → length s < 12 → unsound s ≡ true

@@ -12,7 +12,7 @@ use lib.ListN.{getD, length, length-take, take}
 use lib.Seq.{getD-drop, getD-take, take-all}
 use Rattle.frame.specs.Header.{header}
 use Rattle.trail.proofs.Ends.{bad-none, good, good-some, some-good}
-use Rattle.trail.proofs.Lone.{neither}
+use Rattle.trail.proofs.Tests.{neither}
 use Rattle.trail.specs.Cursor.{passing, wrongWindow}
 use Rattle.trail.specs.Sound.{extraBit, kindBit}
 use Rattle.trail.specs.Step.{stepAt, stepCall}

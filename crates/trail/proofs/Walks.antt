@@ -10,7 +10,8 @@ use lib.Dec.{eqb}
 use lib.ListN.{length, length-append, length-take, take}
 use lib.Seq.{drop-at, getD-append-add, take-at}
 use Rattle.trail.proofs.Ends.{good, good-end}
-use Rattle.trail.proofs.Lone.{either-first, either-second, lone, neither}
+use Rattle.trail.proofs.Lone.{lone}
+use Rattle.trail.proofs.Tests.{either-first, either-second, neither}
 use Rattle.trail.specs.Sound.{extraBit, unsound}
 use Rattle.trail.specs.Trail.{placesBack, trailOf}
 use Rattle.trail.specs.Trails.{EachSound}

@@ -56,6 +56,16 @@ fn it_prints_each_frame_and_the_largest_count() {
 }
 
 #[test]
+fn it_prints_the_example_of_the_documents() {
+    let trail = std::fs::read("../../examples/five.trail").expect("the example can be read");
+    let lines = "62 18 extra 0 1 1\n44 18 extra 0 1 1\n31 13 user 0 1 1\n13 18 extra 0 1 1\n0 13 user 0 1 1\n";
+    for (w, most) in [("1", 1), ("2", 2), ("3", 2), ("4", 3), ("5", 3), ("64", 3)] {
+        let expected = format!("{lines}largest count {most}\n");
+        assert_eq!(printed(&format!("example-{w}"), &trail, w), (expected, Some(0)));
+    }
+}
+
+#[test]
 fn it_says_where_a_damaged_trail_stops() {
     let mut trail = sample();
     trail[20] ^= 1;
