@@ -105,7 +105,7 @@ set-up-says me n cap =
     record {
       numbers = refl;
       answers =
-          by-first setUpAnswer.Refused setUpNumber l setUpAnswer.Ready (c .answer) (omega arith, tt)
+          by-first setUpAnswer.Refused setUpNumber l setUpAnswer.Ready (c .answer) (omega arith)
           (part (λ (s : SetUp). s .answer) c (firstMet l) (acceptSetUp me n cap) refuseSetUp (set-up-by me n cap)) (λ k. refl) refl ready-not;
       allZero =
           λ h. ap (λ (s : SetUp). s .node)
@@ -132,11 +132,9 @@ send-says r to body out =
     = refused (λ (s : AfterSend). sendNumber (s .result .answer)) c (firstMet l) x g (send-by r to body out) refl in
     record {
       numbers = refl;
+      rising = omega arith;
       answers =
-          by-first sendAnswer.Refused sendNumber l (x .result .answer) (c .result .answer) (
-            omega arith,
-            (omega arith, (omega arith, (omega arith, (omega arith, tt)))),
-          )
+          by-first sendAnswer.Refused sendNumber l (x .result .answer) (c .result .answer) (omega arith)
           (part (λ (s : AfterSend). s .result .answer) c (firstMet l) x g (send-by r to body out)) (λ k. refl) refl (sent-not _ _);
       same = λ h. (ap (λ (s : AfterSend). s .result .node) (left h), ap (λ (s : AfterSend). s .out) (left h));
     }
@@ -178,17 +176,9 @@ offer-says r s q =
     = refused (λ (a : AfterOffer). offerNumber (a .result .answer)) c (firstMet l) x g (offer-by r s q) refl in
     record {
       numbers = refl;
+      rising = omega arith;
       answers =
-          by-first offerAnswer.Refused offerNumber l (x .result .answer) (c .result .answer) (
-            omega arith,
-            (
-              omega arith,
-              (
-                omega arith,
-                (omega arith, (omega arith, (omega arith, (omega arith, (omega arith, (omega arith, (omega arith, (omega arith, (omega arith, tt))))))))),
-              ),
-            ),
-          )
+          by-first offerAnswer.Refused offerNumber l (x .result .answer) (c .result .answer) (omega arith)
           (part (λ (a : AfterOffer). a .result .answer) c (firstMet l) x g (offer-by r s q)) (λ k. refl) refl (held-not _ _);
       same = λ h. (ap (λ (a : AfterOffer). a .result .node) (left h), ap (λ (a : AfterOffer). a .queue) (left h));
     }
@@ -224,8 +214,9 @@ deliver-says r q out body =
     = refused (λ (a : AfterDeliver). deliverNumber (a .result .answer)) c (firstMet l) x g (deliver-by r q out body) z in
     record {
       numbers = refl;
+      rising = omega arith;
       answers =
-          by-first deliverAnswer.Refused deliverNumber l (x .result .answer) (c .result .answer) (omega arith, (omega arith, (omega arith, (omega arith, tt))))
+          by-first deliverAnswer.Refused deliverNumber l (x .result .answer) (c .result .answer) (omega arith)
           (part (λ (a : AfterDeliver). a .result .answer) c (firstMet l) x g (deliver-by r q out body)) (λ k. refl) z
           (accepted-not r q out body o (delivery (o .answer)));
       same = λ h. (
@@ -266,7 +257,7 @@ module _ (s : List ℕ) where
   load-answers : Answers load.refused load.loadNumber (loadChecks s) (load.answered (request s))
   unfolding refused18
   load-answers =
-      by-first load.refused load.loadNumber (loadChecks s) (tableOf (request s)) (load.answered (request s)) (omega arith, tt) (load-by (request s)) (λ k. refl)
+      by-first load.refused load.loadNumber (loadChecks s) (tableOf (request s)) (load.answered (request s)) (omega arith) (load-by (request s)) (λ k. refl)
       (table-number (request s)) (table-not (request s))
 
   -- where it is not refused, a table is printed
@@ -328,7 +319,7 @@ write-says file used frame =
     record {
       numbers = refl;
       answers =
-          by-first writeAnswer.Refused writeNumber l (x .answer) (c .answer) (omega arith, (omega arith, tt))
+          by-first writeAnswer.Refused writeNumber l (x .answer) (c .answer) (omega arith)
           (part (λ (a : AfterWrite). a .answer) c (firstMet l) x g by) (λ k. refl) refl (written-not (used + length frame));
       same = λ h. ap (λ (a : AfterWrite). a .file) (refused (λ (a : AfterWrite). writeNumber (a .answer)) c (firstMet l) x g by refl h);
     }
@@ -359,7 +350,7 @@ step-says file c =
     record {
       numbers = refl;
       answers =
-          by-first stepAnswer.Refused stepNumber (stepChecks file c) x (stepCall file c) (omega arith, (omega arith, tt))
+          by-first stepAnswer.Refused stepNumber (stepChecks file c) x (stepCall file c) (omega arith)
           (ap (cond (wrongWindow (c .w)) (stepAnswer.Refused 19))
           (after-window (eqb (length s) 0) (badEnd s) (stepAnswer.End (c .most)) (stepAnswer.Shown (lastStart s) (lastLength s) next) (stepAnswer.Refused 19))
           ∙ by-two (wrongWindow (c .w)) (not (eqb (length s) 0) && badEnd s) 19 19 x stepAnswer.Refused (λ e. omega arith) (λ e. omega arith)) (λ k. refl)
@@ -380,7 +371,7 @@ walk-says file w =
     record {
       numbers = refl;
       answers =
-          by-first walkAnswer.Refused walkNumber (walkChecks file w) x (walkCall file w) (omega arith, (omega arith, tt))
+          by-first walkAnswer.Refused walkNumber (walkChecks file w) x (walkCall file w) (omega arith)
           (ap (cond (wrongWindow w) (walkAnswer.Refused 19)) (turned t x (walkAnswer.Refused 19))
           ∙ by-two (wrongWindow w) (not t) 19 19 x walkAnswer.Refused (λ e. omega arith) (λ e. omega arith)) (λ k. refl) refl
           (largest-not (largest w (walk file .kinds)));

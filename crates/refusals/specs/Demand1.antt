@@ -186,18 +186,21 @@ pub record SetUpSays (me n cap : ℕ) (c : SetUp) : Type 0 where
 -- send: a refusal leaves the record and the frame output
 pub record SendSays (r : Record) (to : ℕ) (body out : List ℕ) (c : AfterSend) : Type 0 where
   pub numbers : numbers (sendChecks r to body out) ≡ 2 ∷ 3 ∷ 5 ∷ 6 ∷ 7 ∷ []
+  pub rising : Rising (sendChecks r to body out)
   pub answers : Answers sendAnswer.Refused sendNumber (sendChecks r to body out) (c .result .answer)
   pub same : ¬ (sendNumber (c .result .answer) ≡ 0) → (c .result .node ≡ r) × (c .out ≡ out)
 
 -- offer: a refusal leaves the record and the queue
 pub record OfferSays (r : Record) (s q : List ℕ) (c : AfterOffer) : Type 0 where
   pub numbers : numbers (offerChecks r s q) ≡ 2 ∷ 3 ∷ 4 ∷ 8 ∷ 9 ∷ 10 ∷ 11 ∷ 12 ∷ 13 ∷ 14 ∷ 15 ∷ 16 ∷ []
+  pub rising : Rising (offerChecks r s q)
   pub answers : Answers offerAnswer.Refused offerNumber (offerChecks r s q) (c .result .answer)
   pub same : ¬ (offerNumber (c .result .answer) ≡ 0) → (c .result .node ≡ r) × (c .queue ≡ q)
 
 -- deliver: a refusal leaves the record, the queue, the frame output and the body output
 pub record DeliverSays (r : Record) (q out body : List ℕ) (c : AfterDeliver) : Type 0 where
   pub numbers : numbers (deliverChecks r q out body) ≡ 2 ∷ 3 ∷ 4 ∷ 5 ∷ []
+  pub rising : Rising (deliverChecks r q out body)
   pub answers : Answers deliverAnswer.Refused deliverNumber (deliverChecks r q out body) (c .result .answer)
   pub same : ¬ (deliverNumber (c .result .answer) ≡ 0) → (c .result .node ≡ r) × (c .queue ≡ q) × (c .out ≡ out) × (c .body ≡ body)
 
