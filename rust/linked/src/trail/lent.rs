@@ -1,8 +1,8 @@
 //! The trail's calls as they are exported: over a lent file, with what they answer in lent numbers.
 //!
 //! Each returns 0 or its refusal; on a refusal file and numbers stay. Nothing checks these declarations against the
-//! Rattle source `crates/node_c/src/lib.rt`: an array or a lent number is a pointer there, and a slice is a pointer and
-//! then its length.
+//! Rattle source `crates/node_c/src/trail_calls.rt`: an array or a lent number is a pointer there, and a slice is a
+//! pointer and then its length.
 
 /// Where a walk stands: the end of what is left, w, the kinds of the frames shown, the extra frames in the window, and
 /// the largest count so far.
