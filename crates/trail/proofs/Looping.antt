@@ -25,6 +25,7 @@ answerOf (stepAnswer.Refused why) = walkAnswer.Refused why
 answerOf (stepAnswer.End most) = walkAnswer.Largest most
 answerOf (stepAnswer.Shown start size next) = walkAnswer.Refused 0
 
+-- so it is the answer with which the walk's steps end
 by-last : (file : List ℕ) (w : ℕ) → walkCall file w ≡ answerOf (walkSteps file w .last)
 unfolding walkCall
 by-last file w = go (wrongWindow w) (eqb (length (walk file .left)) 0) refl refl
@@ -40,6 +41,7 @@ Falls end (stepAnswer.Refused why) = Unit {0}
 Falls end (stepAnswer.End most) = Unit {0}
 Falls end (stepAnswer.Shown start size next) = next .end < end
 
+-- and so it does
 falls : (file : List ℕ) (c : Cursor) → Falls (c .end) (stepCall file c)
 unfolding stepCall stepAt passing
 falls file c = go (wrongWindow (c .w)) (eqb (length s) 0) (badEnd s) refl
@@ -61,6 +63,7 @@ pub record Looping (file : List ℕ) (w : ℕ) (c : Cursor) : Type 0 where
   pub ends : c .end ≤ room
   pub last : walkCall file w ≡ answerOf (stepsAfter room file (stepCall file c) .last)
 
+-- they are all steps at first
 pub loop-start : (file : List ℕ) (w : ℕ) (c : Cursor) → c ≡ begun (length file) w → Looping file w c
 unfolding begun
 loop-start file w c e =
@@ -71,6 +74,7 @@ loop-start file w c e =
     })
 
 module _ (file : List ℕ) (w : ℕ) (c : Cursor) (h : Looping file w c) where
+  -- a refusal, or the start, is what the whole walk answers
   pub loop-refused : (why : ℕ) → stepAnswer.Refused why ≡ stepCall file c → walkAnswer.Refused why ≡ walkCall file w
   loop-refused why e = sym (h .last ∙ rw (← e, after-refused (h .room) file why))
 
@@ -78,6 +82,7 @@ module _ (file : List ℕ) (w : ℕ) (c : Cursor) (h : Looping file w c) where
   loop-end most e = sym (h .last ∙ rw (← e, after-end (h .room) file most))
 
   module _ (start size : ℕ) (next : Cursor) (e : stepAnswer.Shown start size next ≡ stepCall file c) where
+    -- a frame is shown: the cursor falls, and the steps that are left are those behind it
     pub loop-less : next .end < c .end
     loop-less = subst (Falls (c .end)) (sym e) (falls file c)
 

@@ -1,6 +1,6 @@
 -- The steps of a walk are the walk, and what the cursor carries is what the plain definition counts. Assumes nothing.
 use Prim.Native.Nat.{_-_, _≤_, suc, zero, ℕ}
-use mathlib.Core.Bool.{Bool, cond, false, true}
+use mathlib.Core.Bool.{Bool, false, true}
 use mathlib.Core.List.{List, [], _∷_}
 use mathlib.Core.Path.{_∙_, _≡_, ap, refl}
 use native.Mathlib.Omega.{arith}
@@ -15,17 +15,11 @@ use Rattle.trail.proofs.Walks.{enough, stops-bad, stops-not, stops-noth
 use Rattle.trail.specs.Cursor.{begun, passing, wrongWindow}
 use Rattle.trail.specs.Sound.{extraBit}
 use Rattle.trail.specs.Step.{Steps, stepAt, stepCall, stepsAfter}
-use Rattle.trail.specs.StepsWalk.{StepsWalk, walkSteps}
-use Rattle.trail.specs.Walk.{Walk, badEnd, lastFrame, lastLength, lastStart, walk, walkBack}
-use Rattle.trail.specs.Windows.{largest}
+use Rattle.trail.specs.StepsWalk.{StepsWalk, stepsOf, walkSteps}
+use Rattle.trail.specs.Walk.{badEnd, lastFrame, lastLength, lastStart, walk, walkBack}
 use Rattle.trail.specs.declared.walk.Cursor.{Cursor}
 use Rattle.trail.specs.declared.walk.StepAnswer.the-variants as stepAnswer
 use Rattle.frame.specs.Header.{header}
-
--- the steps that a walk stands for
-abbrev stepsOf : ℕ → Walk → Steps
-stepsOf w v =
-    record { shown = v .shown; last = cond (eqb (length (v .left)) 0) (stepAnswer.End (largest w (v .kinds))) (stepAnswer.Refused 19) }
 
 -- an answer that shows nothing is the last
 pub after-end : (k : ℕ) (file : List ℕ) (most : ℕ) → stepsAfter k file (stepAnswer.End most) ≡ record { shown = []; last = stepAnswer.End most }

@@ -9,17 +9,17 @@ use lib.ListN.{length}
 use Rattle.trail.specs.declared.walk.StepAnswer.the-variants as stepAnswer
 use Rattle.trail.specs.Cursor.{begun, wrongWindow}
 use Rattle.trail.specs.Step.{Steps, stepCall, stepsAfter}
-use Rattle.trail.specs.Walk.{walk}
+use Rattle.trail.specs.Walk.{Walk, walk}
 use Rattle.trail.specs.Windows.{largest}
+
+-- the steps that a walk stands for: its frames, then the start with the largest count, or 19 where something is left
+abbrev pub stepsOf : ℕ → Walk → Steps
+stepsOf w v =
+    record { shown = v .shown; last = cond (eqb (length (v .left)) 0) (stepAnswer.End (largest w (v .kinds))) (stepAnswer.Refused 19) }
 
 -- the steps of a walk of the file with a window of w frames, by the plain definitions
 abbrev pub walkSteps : List ℕ → ℕ → Steps
-walkSteps file w =
-    cond (wrongWindow w) (record { shown = []; last = stepAnswer.Refused 19 })
-    (record {
-      shown = walk file .shown;
-      last = cond (eqb (length (walk file .left)) 0) (stepAnswer.End (largest w (walk file .kinds))) (stepAnswer.Refused 19);
-    })
+walkSteps file w = cond (wrongWindow w) (record { shown = []; last = stepAnswer.Refused 19 }) (stepsOf w (walk file))
 
 -- as many steps as the file has bytes, or more, are enough
 pub record StepsWalk : Type 0 where
