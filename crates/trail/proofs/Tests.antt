@@ -1,21 +1,16 @@
 -- One test or another, as an equation. Assumes nothing.
-use Prim.Native.Nat.{ℕ}
 use mathlib.Core.Bool.{Bool, false, true, _||_}
-use mathlib.Core.Path.{_≡_, refl}
-use native.Mathlib.Omega.{arith}
+use mathlib.Core.Logic.{inl, inr}
+use mathlib.Core.Path.{_≡_}
+use Rattle.wire.proofs.Tests.{either-T, is-false, is-true, of-false, of-true, or-not}
 
 -- neither of two tests is met
 pub neither : (a b : Bool) → (a || b) ≡ false → (a ≡ false) × (b ≡ false)
-neither true b e = absurd (no-true e)
-  where
-    no-true : true ≡ false → ⊥
-    no-true p = let z : _≡_ {A = ℕ} 0 1 = cc in absurd (omega arith)
-neither false b e = (refl, e)
+neither a b e = let p = or-not a b (of-false (a || b) e) in (is-false a (p .0), is-false b (p .1))
 
 -- a test whose first part is met, or whose second is
 pub either-first : (a b : Bool) → a ≡ true → (a || b) ≡ true
-either-first a b p = rw p
+either-first a b p = is-true (a || b) (either-T a b (inl (of-true a p)))
 
 pub either-second : (a b : Bool) → b ≡ true → (a || b) ≡ true
-either-second true b p = refl
-either-second false b p = p
+either-second a b p = is-true (a || b) (either-T a b (inr (of-true b p)))
