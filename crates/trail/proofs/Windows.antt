@@ -3,7 +3,7 @@ use Prim.Native.Nat.{ℕ, _+_, _≤_, max}
 use mathlib.Core.Bool.{not}
 use mathlib.Core.List.{List, [], _∷_}
 use mathlib.Core.Logic.{_⊎_, inl, inr}
-use mathlib.Core.Path.{_≡_, refl}
+use mathlib.Core.Path.{_∙_, _≡_, ap, refl}
 use native.Mathlib.Nat.{max-zero}
 use native.Mathlib.Omega.{arith}
 use lib.Dec.{T, leb, leb→le, le→leb}
@@ -23,12 +23,13 @@ pub largest-short : (w : ℕ) (l : List ℕ) → length l ≤ w → largest w l 
 unfolding largest largestTotal windows total
 largest-short w [] h = refl
 largest-short w (x ∷ l) h =
-    rw (cond-yes (leb (length (x ∷ l)) w) ((x ∷ l) ∷ []) (take w (x ∷ l) ∷ windows w l) (le→leb (length (x ∷ l)) w h)) (max-zero (x + total l))
+    ap largestTotal (cond-yes (leb (length (x ∷ l)) w) ((x ∷ l) ∷ []) (take w (x ∷ l) ∷ windows w l) (le→leb (length (x ∷ l)) w h))
+    ∙ max-zero (x + total l)
 
 -- of a longer one it is that of the first window, or of the frames behind the first where that is larger
 largest-long : (w x : ℕ) (l : List ℕ) → T (not (leb (length (x ∷ l)) w)) → largest w (x ∷ l) ≡ max (total (take w (x ∷ l))) (largest w l)
 unfolding largest largestTotal windows
-largest-long w x l t = rw (cond-no (leb (length (x ∷ l)) w) ((x ∷ l) ∷ []) (take w (x ∷ l) ∷ windows w l) t)
+largest-long w x l t = ap largestTotal (cond-no (leb (length (x ∷ l)) w) ((x ∷ l) ∷ []) (take w (x ∷ l) ∷ windows w l) t)
 
 -- one frame more in front: the count of the frames behind it, or that of the first window where that is larger
 pub largest-cons : (w x : ℕ) (l : List ℕ) → largest w (x ∷ l) ≡ max (largest w l) (total (take w (x ∷ l)))

@@ -36,7 +36,7 @@ returns-3 c =
     let l = c .before in
     let m = l .before .before .before in
     sym (step-bad _ _ _ (sym (m .before .before .wrong-window .ensures) ∙ m .before .if1 .left) (m .smaller .ensures) (l .before .before .if2 .left)
-    (sym (l .sound-last .ensures) ∙ c .if3 .taken))
+    (omega (arith, l .sound-last .ensures, c .if3 .taken)))
 
 sub-start : tie.Need-sub-start
 sub-start c =
