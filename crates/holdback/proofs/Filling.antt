@@ -6,8 +6,8 @@ use mathlib.Core.Path.{_∙_, _≡_, refl, sym}
 use native.Mathlib.Nat.{sub-zero}
 use native.Mathlib.Numerals.{add-one}
 use native.Mathlib.Omega.{arith}
-use lib.ListN.{drop, length, length-drop, length-set, set, take}
-use lib.Seq.{take-all, take-suc-set}
+use lib.ListN.{drop, length, length-set, set, take}
+use lib.Seq.{take-suc-set}
 use Rattle.frame.specs.Frame.{decode}
 use Rattle.holdback.proofs.Checking.{queue-split, someWrong}
 use Rattle.holdback.proofs.Held.{held-snoc, wrong-done, wrong-rest}
@@ -20,12 +20,9 @@ use Rattle.protocol.specs.Node.{Node}
 use Rattle.wire.proofs.Tests.{of-false}
 use Rattle.wire.specs.Limits.{maxFrame, maxHeld, maxNodes}
 
--- a slot, and what is behind the filled slots, as parts of the queue that are lent
+-- a slot as a part of the queue that is lent
 pub slot-lent : (q : List ℕ) (i : ℕ) → take (maxFrame * i + maxFrame - maxFrame * i) (drop (maxFrame * i) q) ≡ slotAt q i
 slot-lent q i = let e : maxFrame * i + maxFrame - maxFrame * i ≡ maxFrame = omega arith in rw e
-
-pub rest-lent : (q : List ℕ) (k : ℕ) → take (length q - k) (drop k q) ≡ drop k q
-rest-lent q k = take-all (length q - k) (drop k q) (omega (arith, length-drop k q))
 
 -- the slots before slot i are right, and their keys stand in the list of keys
 pub record Filling (d : Node) (held : ℕ) (q l : List ℕ) (i : ℕ) : Type 0 where

@@ -7,8 +7,7 @@ use native.Mathlib.Decide.{ℕ-discrete}
 use native.Mathlib.Omega.{arith}
 use borrow.Author.Tests.{eq-eqb, ne-eqb}
 use lib.Dec.{T, eqb}
-use lib.ListN.{drop, length, length-drop, take}
-use lib.Seq.{take-all}
+use lib.ListN.{drop, length, take}
 use Rattle.arrival.proofs.Arrived.{decode-from}
 use Rattle.arrival.specs.View.{arrivalRefusal}
 use Rattle.frame.proofs.Passed.{passes-kept}
@@ -24,6 +23,7 @@ use Rattle.holdback.specs.Steps.{allZero, among, keyOf, slotKey, someEqu
 use Rattle.matrix.specs.Message.{Message, number}
 use Rattle.protocol.specs.Node.{Node}
 use Rattle.protocol.specs.Offer.{sameOrigin, someSameOrigin}
+use Rattle.wire.proofs.Bytes.{rest-lent}
 use Rattle.wire.proofs.Tests.{is-false, of-false, or-not}
 use Rattle.wire.specs.Limits.{maxFrame, maxNodes}
 
@@ -68,7 +68,7 @@ unfolding frameIn
 slot-part slot len e = rw e
 
 pub slot-rest : (slot : List ℕ) (len : ℕ) → len ≡ ownLength (header slot) → take (length slot - len) (drop len slot) ≡ drop (ownLength (header slot)) slot
-slot-rest slot len e = rw (← e) (take-all (length slot - len) (drop len slot) (omega (arith, length-drop len slot)))
+slot-rest slot len e = rw (← e) (rest-lent slot len)
 
 pub key-parts : (slot : List ℕ) (h : Header) (k : ℕ) → length slot ≡ maxFrame → h ≡ header slot → k ≡ number (decode (frameIn slot))
     → 16 * k + h .from ≡ keyOf (decode (frameIn slot))

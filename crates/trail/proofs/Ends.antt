@@ -6,8 +6,7 @@ use mathlib.Core.Path.{_≡_, refl, sym}
 use native.Mathlib.Omega.{arith}
 use borrow.Author.Tests.{le-ltb, lt-ltb, ltb-false}
 use lib.Dec.{ltb}
-use lib.ListN.{drop, length, length-drop, take, take-append-drop}
-use lib.Seq.{take-all}
+use lib.ListN.{length, take, take-append-drop}
 use Rattle.trail.proofs.Tests.{either-first, either-second, neither}
 use Rattle.trail.specs.Sound.{unsound}
 use Rattle.trail.specs.SoundLast.{soundLast}
@@ -70,10 +69,6 @@ good-some s = go (badEnd s)
     go : (b : Bool) → (cond b 0 (lastLength s) ≡ 0 → ⊥) → b ≡ false
     go true h = absurd (h refl)
     go false h = refl
-
--- a list from a place to its end, as a slice has it
-pub to-end : (k : ℕ) (s : List ℕ) → take (length s - k) (drop k s) ≡ drop k s
-to-end k s = take-all (length s - k) (drop k s) (simp length-drop (omega arith))
 
 -- what is left is what lies in front of the last frame, and that frame
 pub split-last : (s : List ℕ) → s ≡ take (lastStart s) s ++ lastFrame s

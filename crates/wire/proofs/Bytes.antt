@@ -1,13 +1,13 @@
 -- Laws of bytes written over a list, of the rest of a list in a loop, and of little-endian fields. Assumes nothing.
-use Prim.Native.Nat.{_%_, _*_, _+_, _/_, _<_, _≤_, suc, zero, ℕ}
+use Prim.Native.Nat.{_%_, _*_, _+_, _-_, _/_, _<_, _≤_, suc, zero, ℕ}
 use mathlib.Core.List.{List, [], _++_, _∷_}
 use mathlib.Core.Path.{_∙_, _≡_, ap, refl, sym}
 use native.Mathlib.Decide.{decLt}
 use native.Mathlib.Nat.{add-assoc, add-zero, div-add-mod, div-div-eq-div-mul, mod-eq-of-lt}
 use native.Mathlib.Numerals.{add-one}
 use native.Mathlib.Omega.{arith}
-use lib.ListN.{List·getD-eq-default, drop, getD, length, length-set, length-take, set, take, take-append-drop}
-use lib.Seq.{append-snoc, drop-at, drop-cons, drop-length, drop-set-lt, getD-drop, getD-take, length-take-le, take-append-seam, take-suc-set}
+use lib.ListN.{List·getD-eq-default, drop, getD, length, length-drop, length-set, length-take, set, take, take-append-drop}
+use lib.Seq.{append-snoc, drop-at, drop-cons, drop-length, drop-set-lt, getD-drop, getD-take, length-take-le, take-all, take-append-seam, take-suc-set}
 use Rattle.wire.specs.Bytes.{AllBytes, le16, le32, put}
 
 -- the rest of a list, one element further, in the form `i + 1` of the code
@@ -16,6 +16,10 @@ rest s i h = rw (add-one, drop-cons s i 0)
 
 pub rest-end : (s : List ℕ) (i : ℕ) → length s ≤ i → i ≤ length s → drop i s ≡ []
 rest-end s i h l = let e : i ≡ length s = omega arith in rw (e, drop-length)
+
+-- the rest of a list as a slice has it that is lent from a place to the list's end
+pub rest-lent : (s : List ℕ) (k : ℕ) → take (length s - k) (drop k s) ≡ drop k s
+rest-lent s k = take-all (length s - k) (drop k s) (omega (arith, length-drop k s))
 
 -- nothing written, one byte written, and a run of bytes written in two parts
 pub put-nil : (o : List ℕ) (at : ℕ) → put o at [] ≡ o

@@ -7,11 +7,12 @@ use borrow.Author.Needs.{needs}
 use lib.ListN.{drop, length}
 use lib.Seq.{length-take-le}
 use Rattle.arrival.specs.View.{nodeWith}
-use Rattle.holdback.proofs.Filling.{Filling, filling-end, filling-more, filling-rest, filling-start, filling-wrong, rest-lent, slot-lent}
+use Rattle.holdback.proofs.Filling.{Filling, filling-end, filling-more, filling-rest, filling-start, filling-wrong, slot-lent}
 use Rattle.holdback.proofs.Held.{length-slot}
 use Rattle.holdback.specs.Places.{slotAt}
 use Rattle.holdback.specs.Steps.{allZero, slotKey}
 use Rattle.protocol.specs.Node.{Node}
+use Rattle.wire.proofs.Bytes.{rest-lent}
 use Rattle.wire.proofs.Tests.{denied, passed}
 use Rattle.wire.specs.Limits.{maxFrame}
 use Rattle.holdback.proofs.wrong_queue.Statement.{statement}

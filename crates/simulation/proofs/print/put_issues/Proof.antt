@@ -6,7 +6,7 @@ use native.Mathlib.Omega.{arith}
 use borrow.Author.Needs.{needs}
 use lib.ListN.{length}
 use Rattle.frame.specs.Header.{header}
-use Rattle.holdback.proofs.Filling.{rest-lent}
+use Rattle.wire.proofs.Bytes.{rest-lent}
 use Rattle.world.proofs.Logs.{log-room, log-part}
 use Rattle.simulation.specs.Asked.{InLog}
 use Rattle.simulation.proofs.Rows.{Issuing, issuing-goes, issuing-ends}

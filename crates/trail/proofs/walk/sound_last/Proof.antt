@@ -5,9 +5,10 @@ use mathlib.Core.Path.{_∙_, _≡_, sym}
 use native.Mathlib.Omega.{arith}
 use borrow.Author.Needs.{needs}
 use lib.ListN.{length}
-use Rattle.trail.proofs.Ends.{bad-frame, bad-points, bad-short, good-end, none-bad, some-good, to-end}
+use Rattle.trail.proofs.Ends.{bad-frame, bad-points, bad-short, good-end, none-bad, some-good}
 use Rattle.trail.specs.Sound.{unsound}
 use Rattle.trail.specs.Walk.{lastFrame, lastLength, lastStart}
+use Rattle.wire.proofs.Bytes.{rest-lent}
 use Rattle.wire.specs.Trailer.{countBack}
 use Rattle.trail.proofs.walk.sound_last.Statement.{statement}
 use Rattle.trail.proofs.walk.sound_last.Tie as tie
@@ -47,7 +48,7 @@ returns-3 c =
     let g = u .before .before .before in
     let s = g .before .before .before .args .s .now in
     let e : length s - (g .get-u16 .result + 4) ≡ lastStart s = omega (arith, g .get-u16 .ensures) in
-    sym (none-bad _ (bad-frame _ (rw (← e, ← to-end _ s) (sym (u .unsound .ensures) ∙ c .if3 .taken))))
+    sym (none-bad _ (bad-frame _ (rw (← e, ← rest-lent s _) (sym (u .unsound .ensures) ∙ c .if3 .taken))))
 
 returns-4 : tie.Need-returns-4
 unfolding countBack
@@ -57,7 +58,7 @@ returns-4 c =
     let s = g .before .before .before .args .s .now in
     let e : length s - (g .get-u16 .result + 4) ≡ lastStart s = omega (arith, g .get-u16 .ensures) in
     let inside : lastLength s ≤ length s = omega (arith, g .get-u16 .ensures, u .before .before .if2 .left) in
-    let sound : unsound (lastFrame s) ≡ false = rw (← e, ← to-end _ s) (sym (u .unsound .ensures) ∙ c .if3 .left) in
+    let sound : unsound (lastFrame s) ≡ false = rw (← e, ← rest-lent s _) (sym (u .unsound .ensures) ∙ c .if3 .left) in
     omega (arith, g .get-u16 .ensures, some-good s (good-end s (g .before .if1 .left) inside sound))
 
 pub sound-last-spec : {M : Type 1} → statement M

@@ -1,8 +1,8 @@
 -- The own length of the frame, read at its beginning. Assumes nothing.
 use native.Mathlib.Omega.{arith}
 use borrow.Author.Needs.{needs}
-use Rattle.holdback.proofs.Filling.{rest-lent}
 use Rattle.holdback.proofs.Slots.{own-most}
+use Rattle.wire.proofs.Bytes.{rest-lent}
 use Rattle.world.proofs.log.frame_end.Statement.{statement}
 use Rattle.world.proofs.log.frame_end.Tie as tie
 
