@@ -36,7 +36,7 @@ pub extern "C" fn trail_step(file: &[u8], cursor: &mut [u64; 5], shown: &mut [u6
     };
     match trail::walk::step(file, c) {
         StepAnswer::Refused(why) => why,
-        StepAnswer::End(most) => {
+        StepAnswer::End(_) => {
             *shown = [0, 0];
             0
         }

@@ -337,9 +337,9 @@ goes-not true most start size next k = end-not most k
 goes-not false most start size next k = shown-not start size next k
 
 -- what is left is looked at before its end is
-after-window : (b d : Bool) (x y z : StepAnswer) → cond b x (cond d z y) ≡ cond (not b && d) z (cond b x y)
-after-window true d x y z = refl
-after-window false d x y z = refl
+left-first : (b d : Bool) (x y z : StepAnswer) → cond b x (cond d z y) ≡ cond (not b && d) z (cond b x y)
+left-first true d x y z = refl
+left-first false d x y z = refl
 
 step-says : (file : List ℕ) (c : Cursor) → StepSays file c
 unfolding stepCall stepAt
@@ -352,7 +352,7 @@ step-says file c =
       answers =
           by-first stepAnswer.Refused stepNumber (stepChecks file c) x (stepCall file c) (omega arith)
           (ap (cond (wrongWindow (c .w)) (stepAnswer.Refused 19))
-          (after-window (eqb (length s) 0) (badEnd s) (stepAnswer.End (c .most)) (stepAnswer.Shown (lastStart s) (lastLength s) next) (stepAnswer.Refused 19))
+          (left-first (eqb (length s) 0) (badEnd s) (stepAnswer.End (c .most)) (stepAnswer.Shown (lastStart s) (lastLength s) next) (stepAnswer.Refused 19))
           ∙ by-two (wrongWindow (c .w)) (not (eqb (length s) 0) && badEnd s) 19 19 x stepAnswer.Refused (λ e. omega arith) (λ e. omega arith)) (λ k. refl)
           (goes-number (eqb (length s) 0) (c .most) (lastStart s) (lastLength s) next)
           (goes-not (eqb (length s) 0) (c .most) (lastStart s) (lastLength s) next);
