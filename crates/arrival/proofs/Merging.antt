@@ -8,7 +8,7 @@ use native.Mathlib.Omega.{arith}
 use borrow.Author.Tests.{ne-eqb}
 use lib.Dec.{eqb}
 use lib.ListN.{length}
-use Rattle.arrival.proofs.Sound.{readable}
+use Rattle.arrival.proofs.Sound.{Inside, readable}
 use Rattle.arrival.specs.CheckedFrame.{CheckedFrame}
 use Rattle.frame.proofs.Checks.{entries-done, entries-rest}
 use Rattle.frame.proofs.Lookup.{Ordered, look-before, look-hit, look-miss, look-none, ordered-down, place}
@@ -19,8 +19,10 @@ use Rattle.frame.specs.declared.entries.Entry.{Entry}
 use Rattle.frame.specs.declared.header.Header.{Header}
 use Rattle.matrix.proofs.Array.{entry-flat, flat-back, flat-ext, length-flat}
 use Rattle.matrix.proofs.Matrix.{merge-max, merge-own}
+use Rattle.matrix.proofs.Merged.{inside-single, merge-back, merge-limit, single-limit}
 use Rattle.matrix.specs.Array.{entry, flat}
 use Rattle.matrix.specs.Matrix.{Matrix, merge, single}
+use Rattle.wire.specs.Limits.{maxCount}
 
 -- the matrix with one entry is that of the list of this entry
 single-look : (a : Entry) (x y : ℕ) → single (a .row) (a .column) (a .value) x y ≡ matrixOf (a ∷ []) x y
@@ -78,25 +80,30 @@ merge-none j l e = flat-ext (merge j (entry l) (matrixOf [])) (entry l) (λ x y 
 pub record Merging (s : List ℕ) (j e : ℕ) (m₀ m : List ℕ) (k : ℕ) : Type 0 where
   pub turns : k ≤ e
   pub cells : length m ≡ 144
+  pub limit : (x y : ℕ) → entry m x y ≤ maxCount
   pub ordered : Ordered 0 (entriesFrom s k (e - k))
   pub whole : flat (merge j (entry m) (matrixOf (entriesFrom s k (e - k)))) ≡ flat (merge j (entry m₀) (matrixOf (entriesFrom s 0 e)))
 
-pub merging-start : (s : List ℕ) (j : ℕ) (h : Header) (m : List ℕ) → CheckedFrame s → h ≡ header s → length m ≡ 144 → Merging s j (h .e) m m 0
-merging-start s j h m c e l =
-    record { turns = omega arith; cells = l; ordered = rw sub-zero (readable s h c e .ordered); whole = rw sub-zero refl }
+pub merging-start : (s : List ℕ) (j : ℕ) (h : Header) (m : List ℕ) → CheckedFrame s → h ≡ header s → length m ≡ 144
+    → ((x y : ℕ) → entry m x y ≤ maxCount) → Merging s j (h .e) m m 0
+merging-start s j h m c e l most =
+    record { turns = omega arith; cells = l; limit = most; ordered = rw sub-zero (readable s h c e .ordered); whole = rw sub-zero refl }
 
-pub merging-turn : (s : List ℕ) (j e : ℕ) (m₀ m m′ : List ℕ) (k : ℕ) (a : Entry) → Merging s j e m₀ m k → k < e → a ≡ entryAt s k
+pub merging-turn : (s : List ℕ) (j e : ℕ) (m₀ m m′ : List ℕ) (k : ℕ) (a : Entry) → Merging s j e m₀ m k → k < e → a ≡ entryAt s k → Inside a
     → m′ ≡ flat (merge j (entry m) (single (a .row) (a .column) (a .value))) → Merging s j e m₀ m′ (k + 1)
-merging-turn s j e m₀ m m′ k a w h q n =
+merging-turn s j e m₀ m m′ k a w h q i n =
+    let one = single (a .row) (a .column) (a .value) in
+    let back = ap entry n ∙ merge-back j m one (inside-single (a .row) (a .column) (a .value) (i .row) (i .column)) in
     let l = entriesFrom s (k + 1) (e - (k + 1)) in
     let r : entriesFrom s k (e - k) ≡ a ∷ l = entries-rest s k e h ∙ rw q in
     let o : Ordered 0 (a ∷ l) = rw r at (w .ordered) in
     record {
       turns = omega arith;
-      cells = rw n (length-flat (merge j (entry m) (single (a .row) (a .column) (a .value))));
+      cells = rw n (length-flat (merge j (entry m) one));
+      limit = rw back (merge-limit j (entry m) one maxCount (w .limit) (single-limit (a .row) (a .column) (a .value) maxCount (i .most)));
       ordered = ordered-down 0 (place a + 1) l (omega arith) (o .1);
       whole =
-          rw n (merge-array j (merge j (entry m) (single (a .row) (a .column) (a .value))) (matrixOf l)
+          rw n (merge-array j (merge j (entry m) one) (matrixOf l)
           ∙ ap flat (merge-step j (entry m) 0 a l o)) ∙ rw r at (w .whole);
     }
 

@@ -1,8 +1,9 @@
 //! A sound frame that arrives at a node: its number, the refusals 12 to 14, whether it is deliverable, and its entries merged.
 ghost use mathlib.Core.Path.{_≡_};
 ghost use mathlib.Core.List.{List};
-ghost use Prim.Native.Nat.{ℕ, _<_};
+ghost use Prim.Native.Nat.{ℕ, _<_, _≤_};
 ghost use lib.ListN.{length};
+ghost use Rattle.wire.specs.Limits.{maxCount};
 ghost use Rattle.matrix.specs.Matrix.{merge};
 ghost use Rattle.matrix.specs.Array.{flat, entry, vector};
 ghost use Rattle.matrix.specs.Message.{Message, number};
@@ -120,7 +121,7 @@ pub fn deliverable(s: &[u8], me: u8, deliv: &[u32; 12]) -> bool
 
 /// Merges the entries of a sound frame into the matrix of node j.
 pub fn merge(m: &mut [u32; 144], s: &[u8], j: u8)
-    requires { ⌜ (length (now m) ≡ 144) × CheckedFrame (now s) ⌝ }
+    requires { ⌜ (length (now m) ≡ 144) × CheckedFrame (now s) × ((x y : ℕ) → entry (now m) x y ≤ maxCount) ⌝ }
     ensures { λ _. ⌜ now (m .exit) ≡ flat (merge j (entry (now (m .entry))) (decode (now (s .entry)) .entries)) ⌝ }
 {
     let h = frame::header::read(s);

@@ -3,6 +3,8 @@ pub mod Sums
 pub mod Matrix
 pub mod Columns
 pub mod Array
+pub mod Choice
 pub mod Stores
 pub mod Bounds
 pub mod Cleared
+pub mod Merged

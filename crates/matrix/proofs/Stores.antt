@@ -53,39 +53,40 @@ emptied-clear m i j v h k e =
     go x y a (no p) d = stored-else i j v (emptied 12 j m) x y (λ _ r. p r) ∙ emptied-out 12 j m x y (λ r _. p r) ∙ sym (clear-keep i j m x y p)
 
 -- one entry
-single-here : (a b v : ℕ) → single a b v a b ≡ v
+pub single-here : (a b v : ℕ) → single a b v a b ≡ v
 unfolding single
 single-here a b v = cond-yes (eqb a a && eqb b b) v 0 (T-and (eqb a a) (eqb b b) (eqb-refl a) (eqb-refl b))
 
-single-else : (a b v x y : ℕ) → (x ≡ a → y ≡ b → ⊥) → single a b v x y ≡ 0
+pub single-else : (a b v x y : ℕ) → (x ≡ a → y ≡ b → ⊥) → single a b v x y ≡ 0
 unfolding single
 single-else a b v x y h =
     cond-no (eqb x a && eqb y b) v 0 (not-T (eqb x a && eqb y b) (λ t. let p = and-T (eqb x a) (eqb y b) t in h (eqb→eq x a (p .0)) (eqb→eq y b (p .1))))
 
--- an entry of the node's own column changes nothing, and another becomes the larger one
-pub merge-mine : (l : List ℕ) (j x y v : ℕ) → length l ≡ 144 → y ≡ j → l ≡ flat (merge j (entry l) (single x y v))
-merge-mine l j x y v e q = sym (flat-back l e) ∙ flat-ext (entry l) (merge j (entry l) (single x y v)) (λ a b _ _. go a b (ℕ-discrete b j))
+-- an entry that is merged with zero stays
+merge-kept : (j : ℕ) (m e : Matrix) (x y : ℕ) → e x y ≡ 0 → merge j m e x y ≡ m x y
+merge-kept j m e x y z = go (ℕ-discrete y j)
   where
-    go : (a b : ℕ) → Dec (b ≡ j) → entry l a b ≡ merge j (entry l) (single x y v) a b
-    go a b (yes p) = rw p (sym (merge-own j (entry l) (single x y v) a))
-    go a b (no p) = sym (merge-max j (entry l) (single x y v) a b p ∙ rw (single-else x y v a b (λ _ r. p (r ∙ q))) (omega arith))
+    go : Dec (y ≡ j) → merge j m e x y ≡ m x y
+    go (yes p) = rw p (merge-own j m e x)
+    go (no p) = merge-max j m e x y p ∙ rw z (omega arith)
 
-pub merge-one : (l : List ℕ) (j x y v : ℕ) → length l ≡ 144 → x < 12 → y < 12 → (y ≡ j → ⊥)
-    → set l (12 * x + y) (max (getD l (12 * x + y) 0) v) ≡ flat (merge j (entry l) (single x y v))
-merge-one l j x y v e h k ne =
-    set-entry l x y w e h k
-    ∙ flat-ext (stored x y w (entry l)) (merge j (entry l) (single x y v)) (λ a b _ _. go a b (ℕ-discrete b j) (ℕ-discrete a x) (ℕ-discrete b y))
+-- so one entry stays in the node's own column, and becomes the larger one in another
+pub merge-one : (l : List ℕ) (j x y v : ℕ) → length l ≡ 144 → x < 12 → y < 12
+    → set l (12 * x + y) (cond (eqb y j) (getD l (12 * x + y) 0) (max (getD l (12 * x + y) 0) v)) ≡ flat (merge j (entry l) (single x y v))
+unfolding merge
+merge-one l j x y v e h k =
+    set-entry l x y w e h k ∙ flat-ext (stored x y w (entry l)) (merge j (entry l) (single x y v)) (λ a b _ _. go a b (ℕ-discrete a x) (ℕ-discrete b y))
   where
     w : ℕ
-    w = max (getD l (12 * x + y) 0) v
+    w = cond (eqb y j) (getD l (12 * x + y) 0) (max (getD l (12 * x + y) 0) v)
 
-    else : (a b : ℕ) → (a ≡ x → b ≡ y → ⊥) → (b ≡ j → ⊥) → stored x y w (entry l) a b ≡ merge j (entry l) (single x y v) a b
-    else a b o p =
-        stored-else x y w (entry l) a b o ∙ sym (merge-max j (entry l) (single x y v) a b p ∙ rw (single-else x y v a b o) (omega arith))
+    here : w ≡ merge j (entry l) (single x y v) x y
+    here = rw (single-here x y v, entry-in l x y h k)
 
-    go : (a b : ℕ) → Dec (b ≡ j) → Dec (a ≡ x) → Dec (b ≡ y) → stored x y w (entry l) a b ≡ merge j (entry l) (single x y v) a b
-    go a b (yes p) d f = stored-else x y w (entry l) a b (λ _ r. ne (sym r ∙ p)) ∙ rw p (sym (merge-own j (entry l) (single x y v) a))
-    go a b (no p) (yes q) (yes r) =
-        rw (q, r, stored-here) (sym (merge-max j (entry l) (single x y v) x y ne ∙ rw (single-here x y v, entry-in l x y h k)))
-    go a b (no p) (yes q) (no r) = else a b (λ _ s. r s) p
-    go a b (no p) (no q) f = else a b (λ s _. q s) p
+    else : (a b : ℕ) → (a ≡ x → b ≡ y → ⊥) → stored x y w (entry l) a b ≡ merge j (entry l) (single x y v) a b
+    else a b o = stored-else x y w (entry l) a b o ∙ sym (merge-kept j (entry l) (single x y v) a b (single-else x y v a b o))
+
+    go : (a b : ℕ) → Dec (a ≡ x) → Dec (b ≡ y) → stored x y w (entry l) a b ≡ merge j (entry l) (single x y v) a b
+    go a b (yes q) (yes r) = rw (q, r, stored-here) here
+    go a b (yes q) (no r) = else a b (λ _ s. r s)
+    go a b (no q) d = else a b (λ s _. q s)

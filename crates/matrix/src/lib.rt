@@ -1,7 +1,10 @@
 //! The matrix of counts: 144 counts, row by row, so that row x and column y stand at place 12 * x + y. Nothing here knows of bytes.
 ghost use mathlib.Core.Path.{_≡_};
-ghost use Prim.Native.Nat.{_<_, max};
+ghost use mathlib.Core.Bool.{cond};
+ghost use Prim.Native.Nat.{_<_, _≤_, max};
+ghost use lib.Dec.{eqb, ltb};
 ghost use lib.ListN.{length};
+ghost use Rattle.wire.specs.Limits.{maxCount};
 ghost use Rattle.matrix.specs.Matrix.{nonZero, count, columnCount, fullest, clear, merge, single};
 ghost use Rattle.matrix.specs.Array.{flat, entry};
 
@@ -73,20 +76,36 @@ pub fn clear_column(m: &mut [u32; 144], i: usize, j: usize)
     m[12 * i + j] = issued + 1;
 }
 
-/// The larger of two counts.
-pub fn larger(a: u32, b: u32) -> u32
-    ensures { λ r. ⌜ r ≡ max a b ⌝ }
+// The sign of p - q, without a branch: 0 where the difference is negative, and 1 where it is not.
+fn sign(p: u32, q: u32) -> u32
+    requires { ⌜ (p ≤ maxCount) × (q ≤ maxCount) ⌝ }
+    ensures { λ r. ⌜ r ≡ cond (ltb p q) 0 1 ⌝ }
 {
-    if a < b { b } else { a }
+    let d = p as i32 - q as i32;
+    ((d >> 31) + 1) as u32
 }
 
-/// Merges the entry v in row x and column y at node j.
+// One of two counts, without a branch: a where s is 1, and b where it is 0.
+fn chosen(s: u32, a: u32, b: u32) -> u32
+    requires { ⌜ (s ≤ 1) × (a ≤ maxCount) × (b ≤ maxCount) ⌝ }
+    ensures { λ r. ⌜ r ≡ cond (eqb s 1) a b ⌝ }
+{
+    s * a + (1 - s) * b
+}
+
+/// The larger of two counts, by the sign of their difference.
+pub fn larger(a: u32, b: u32) -> u32
+    requires { ⌜ (a ≤ maxCount) × (b ≤ maxCount) ⌝ }
+    ensures { λ r. ⌜ r ≡ max a b ⌝ }
+{
+    chosen(sign(a, b), a, b)
+}
+
+/// Merges the entry v in row x and column y at node j: an entry of column j stays, and that too is chosen without a branch.
 pub fn merge_entry(m: &mut [u32; 144], j: usize, x: usize, y: usize, v: u32)
-    requires { ⌜ (length (now m) ≡ 144) × (x < 12) × (y < 12) ⌝ }
+    requires { ⌜ (length (now m) ≡ 144) × (x < 12) × (y < 12) × (entry (now m) x y ≤ maxCount) × (v ≤ maxCount) ⌝ }
     ensures { λ _. ⌜ now (m .exit) ≡ flat (merge j (entry (now (m .entry))) (single x y v)) ⌝ }
 {
-    if y == j {
-        return;
-    }
-    m[12 * x + y] = larger(m[12 * x + y], v);
+    let kept = m[12 * x + y];
+    m[12 * x + y] = chosen((y == j) as u32, kept, larger(kept, v));
 }

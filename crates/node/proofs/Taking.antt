@@ -20,9 +20,9 @@ use Rattle.frame.specs.Frame.{decode}
 use Rattle.frame.specs.Frames.{framesOf}
 use Rattle.frame.specs.Header.{header, kindByte, kindOf}
 use Rattle.frame.specs.declared.header.Header.{Header}
-use Rattle.matrix.proofs.Array.{entry-back, flat-back, vector-list, length-list}
-use Rattle.matrix.proofs.Cleared.{Inside, inside-entry}
-use Rattle.matrix.proofs.Matrix.{merge-max, merge-own}
+use Rattle.matrix.proofs.Array.{flat-back, vector-list, length-list}
+use Rattle.matrix.proofs.Cleared.{Inside}
+use Rattle.matrix.proofs.Merged.{merge-back, merge-limit}
 use Rattle.matrix.specs.Array.{entry, flat, listFrom, vector}
 use Rattle.matrix.specs.Matrix.{Matrix, merge}
 use Rattle.matrix.specs.Message.{Message, number}
@@ -58,26 +58,10 @@ module _ (s : List ℕ) (c : CheckedFrame s) where
       go (yes e) = omega arith
       go (no e) = inside-entry-of x y e .most
 
--- a merge keeps both
-inside-merge : (j : ℕ) (m e : Matrix) → Inside m → Inside e → Inside (merge j m e)
-inside-merge j m e p q x y h = go (ℕ-discrete y j)
-  where
-    go : Dec (y ≡ j) → merge j m e x y ≡ 0
-    go (yes a) = rw a (merge-own j m e x ∙ ap (m x) (sym a) ∙ p x y h)
-    go (no a) = merge-max j m e x y a ∙ rw (p x y h, q x y h)
-
-merge-limit : (j : ℕ) (m e : Matrix) (k : ℕ) → ((x y : ℕ) → m x y ≤ k) → ((x y : ℕ) → e x y ≤ k) → (x y : ℕ) → merge j m e x y ≤ k
-merge-limit j m e k p q x y = go (ℕ-discrete y j)
-  where
-    go : Dec (y ≡ j) → merge j m e x y ≤ k
-    go (yes a) = rw (a, merge-own j m e x) (p x j)
-    go (no a) = rw (merge-max j m e x y a) (omega (arith, p x y, q x y))
-
 -- the array after a merge has the merged matrix
 merged-back : (s : List ℕ) (j : ℕ) (m m₁ : List ℕ) → CheckedFrame s → m₁ ≡ flat (merge j (entry m) (decode s .entries))
     → entry m₁ ≡ merge j (entry m) (decode s .entries)
-merged-back s j m m₁ c e =
-    ap entry e ∙ entry-back (merge j (entry m) (decode s .entries)) (inside-merge j (entry m) (decode s .entries) (inside-entry m) (entries-inside s c))
+merged-back s j m m₁ c e = ap entry e ∙ merge-back j m (decode s .entries) (entries-inside s c)
 
 pub merged-limit : (s : List ℕ) (j : ℕ) (m m₁ : List ℕ) → CheckedFrame s → ((x y : ℕ) → entry m x y ≤ maxCount)
     → m₁ ≡ flat (merge j (entry m) (decode s .entries)) → (x y : ℕ) → entry m₁ x y ≤ maxCount

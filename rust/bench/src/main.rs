@@ -2,9 +2,9 @@
 //!
 //! Both sides go from a record's image in bytes to the next one: the proved node over the lent image, the reference by
 //! reading it, its call by value, and writing it back. The last column is the reference's call alone, on a record that
-//! is read already. A round runs each side on COPIES copies of the state, which are restored between rounds and not
-//! timed; outputs are not cleared between calls. Tables of their own have the whole load and the trail, which have no
-//! image. An argument is a part of the names of the rows to run.
+//! is read already. A round runs each side on COPIES copies of the state, or on each of a row's MERGES states; they are
+//! restored between rounds, which is not timed; outputs are not cleared between calls. Tables of their own have the
+//! whole load and the trail, which have no image. An argument is a part of the names of the rows to run.
 
 mod loads;
 mod measure;
@@ -17,9 +17,12 @@ use reference::node::OUTPUT;
 use reference::{deliver, offer, send, set_up, Record};
 use states::{frame, state, Size, State};
 use std::hint::black_box;
+use std::slice::from_ref;
 
 /// Copies of a state, so that a round's time is long against the clock's.
 const COPIES: usize = 16;
+/// Different states of the rows with counts in random order, so that no branch on a count can be foreseen.
+const MERGES: u64 = 64;
 /// Rounds of each side, in turn.
 const ROUNDS: usize = 301;
 /// Rounds before these that are not counted.
@@ -54,14 +57,14 @@ impl Bench {
 type Side<'a> = Box<dyn Fn(&mut Bench) -> u8 + 'a>;
 
 /// One round: nanoseconds a call.
-fn round(copies: &mut [Bench], state: &State, side: &Side) -> f64 {
-    copies.iter_mut().for_each(|copy| copy.restore(state));
+fn round(copies: &mut [Bench], states: &[State], side: &Side) -> f64 {
+    copies.iter_mut().zip(states.iter().cycle()).for_each(|(copy, state)| copy.restore(state));
     let time = nanoseconds(|| {
         for copy in copies.iter_mut() {
             black_box(side(black_box(copy)));
         }
     });
-    time / COPIES as f64
+    time / copies.len() as f64
 }
 
 /// The sides answer alike, and the first two leave the same bytes.
@@ -75,21 +78,21 @@ fn check(name: &str, state: &State, sides: &[Side; 3]) {
 }
 
 /// One row: the proved node, the reference from image to image, and the reference by value, in turn.
-fn row(name: &str, state: &State, sides: [Side; 3]) {
+fn row(name: &str, states: &[State], sides: [Side; 3]) {
     if !is_wanted(name) {
         return;
     }
-    check(name, state, &sides);
-    let mut copies = vec![Bench::new(state); COPIES];
+    states.iter().for_each(|state| check(name, state, &sides));
+    let mut copies: Vec<Bench> = states.iter().cycle().take(COPIES.max(states.len())).map(Bench::new).collect();
     let mut times = [Vec::new(), Vec::new(), Vec::new()];
     for _ in 0..WARM_UP {
         sides.iter().for_each(|side| {
-            round(&mut copies, state, side);
+            round(&mut copies, states, side);
         });
     }
     for _ in 0..ROUNDS {
         for (side, times) in sides.iter().zip(&mut times) {
-            times.push(round(&mut copies, state, side));
+            times.push(round(&mut copies, states, side));
         }
     }
     let [proved, image, value] = times.map(median);
@@ -111,7 +114,7 @@ fn set_up_row(n: usize) {
         b.record = record;
         answer.err().unwrap_or(0)
     };
-    row(&format!("set-up, n {n}"), &nothing, [Box::new(proved), Box::new(image), Box::new(value)]);
+    row(&format!("set-up, n {n}"), &[nothing], [Box::new(proved), Box::new(image), Box::new(value)]);
 }
 
 /// Send to node 1.
@@ -127,7 +130,7 @@ fn send_row(name: &str, state: &State, body: &[u8]) {
         b.record = record;
         taken_number(matches!(answer, reference::SendAnswer::Sent { .. }))
     };
-    row(name, state, [Box::new(proved), Box::new(image), Box::new(value)]);
+    row(name, from_ref(state), [Box::new(proved), Box::new(image), Box::new(value)]);
 }
 
 /// Offer of a frame.
@@ -147,11 +150,11 @@ fn offer_row(name: &str, state: &State, frame: &[u8]) {
         b.record = record;
         number(answer)
     };
-    row(name, state, [Box::new(proved), Box::new(image), Box::new(value)]);
+    row(name, from_ref(state), [Box::new(proved), Box::new(image), Box::new(value)]);
 }
 
 /// Deliver.
-fn deliver_row(name: &str, state: &State) {
+fn deliver_row(name: &str, states: &[State]) {
     let number = |answer| match answer {
         reference::DeliverAnswer::Refused(number) => number,
         _ => 0,
@@ -167,7 +170,7 @@ fn deliver_row(name: &str, state: &State) {
         b.record = record;
         number(answer)
     };
-    row(name, state, [Box::new(proved), Box::new(image), Box::new(value)]);
+    row(name, states, [Box::new(proved), Box::new(image), Box::new(value)]);
 }
 
 /// 0 for a call that was taken.
@@ -176,7 +179,7 @@ fn taken_number(taken: bool) -> u8 {
 }
 
 fn main() {
-    println!("ns a call, medians of {ROUNDS} rounds of {COPIES} calls; outputs are not cleared between calls");
+    println!("ns a call, medians of {ROUNDS} rounds of {COPIES} calls ({MERGES} in random order); outputs are not cleared between calls");
     println!("| call | proved, over the image | reference, image to image | ratio | reference by value | ratio |");
     println!("|---|---|---|---|---|---|");
     for n in [4, 12] {
@@ -191,14 +194,16 @@ fn main() {
                 let note = if held == 16 { " (refused, 16)" } else { "" };
                 offer_row(&format!("offer, n {n}, {size}, {held} held{note}"), &state, &bytes);
             }
-            deliver_row(&format!("deliver, n {n}, {size}, 0 held (none)"), &state(n, 0, 0, size));
+            deliver_row(&format!("deliver, n {n}, {size}, 0 held (none)"), &[state(n, 0, 0, size)]);
             for held in [8, 16] {
-                deliver_row(&format!("deliver, n {n}, {size}, {held} held, the first"), &state(n, held, 1, size));
-                deliver_row(&format!("deliver, n {n}, {size}, {held} held, the last"), &state(n, held, held, size));
-                deliver_row(&format!("deliver, n {n}, {size}, {held} held, none"), &state(n, held, 0, size));
+                deliver_row(&format!("deliver, n {n}, {size}, {held} held, the first"), &[state(n, held, 1, size)]);
+                deliver_row(&format!("deliver, n {n}, {size}, {held} held, the last"), &[state(n, held, held, size)]);
+                deliver_row(&format!("deliver, n {n}, {size}, {held} held, none"), &[state(n, held, 0, size)]);
             }
         }
-        deliver_row(&format!("deliver, n {n}, cap {n}, 1 held, extras issued"), &states::trims(n));
+        deliver_row(&format!("deliver, n {n}, cap {n}, 1 held, extras issued"), &[states::trims(n)]);
+        let merges: Vec<State> = (1..=MERGES).map(|seed| states::merges(n, seed)).collect();
+        deliver_row(&format!("deliver, n {n}, 1 held, {} entries, counts in random order", (n - 1) * (n - 1)), &merges);
     }
     loads::table();
     trails::table();

@@ -2,11 +2,14 @@
 
 use reference::draft::Draft;
 use reference::frame::USER;
+use reference::random::Random;
 use reference::{shelf, Record};
 use std::fmt::{Display, Formatter, Result};
 
 /// What DELIV says of every other node.
 const DELIVERED: u32 = 5;
+/// The largest count of a state with counts in random order, one below the limit, so that no call is refused for it.
+const COUNT: usize = 999_999_999;
 
 /// A record and its shelf.
 #[derive(Clone)]
@@ -97,6 +100,36 @@ pub fn trims(n: usize) -> State {
     for (row, column) in places.filter(|(row, column)| row != column).take(n - 1) {
         draft.set(row, column, 9);
     }
+    hold(&mut state, &draft.bytes());
+    state
+}
+
+/// A full merge: every entry that may stand does, in M and in the held frame; which of two counts is the larger goes by
+/// the seed, but in row 0, where no frame may have more than node 0.
+pub fn merges(n: usize, seed: u64) -> State {
+    let mut random = Random::new(seed);
+    let mut state = fresh(n, n * n);
+    let (n8, cap, from) = (n as u8, (n * n) as u8, 1);
+    let mut draft =
+        Draft { kind: USER, from: from as u8, to: 0, n: n8, cap, zero: 0, entries: Vec::new(), body: Vec::new() };
+    let places = (0..n).flat_map(|row| (0..n).map(move |column| (row, column)));
+    for (row, column) in places.filter(|(row, column)| row != column) {
+        let kept = random.within(1, COUNT) as u32;
+        let most = if column == 0 {
+            DELIVERED as usize
+        } else if row == 0 {
+            kept as usize
+        } else {
+            COUNT
+        };
+        if column != 0 {
+            *state.record.entry_mut(row, column) = kept;
+        }
+        if column != from {
+            draft.set(row, column, random.within(1, most) as u32);
+        }
+    }
+    draft.set(from, 0, DELIVERED);
     hold(&mut state, &draft.bytes());
     state
 }

@@ -22,7 +22,7 @@ loop-holds : tie.Need-loop-holds Inv-loop μ-loop
 loop-holds c =
     let d = c .before in
     let s = d .before .before in
-    merging-start (s .args .s .now) (s .args .j) (d .read .result) (s .args .m .now) (s .pre .1) (d .read .ensures) (s .pre .0)
+    merging-start (s .args .s .now) (s .args .j) (d .read .result) (s .args .m .now) (s .pre .1) (d .read .ensures) (s .pre .0) (s .pre .2)
 
 read-requires-2 : tie.Need-read-requires-2 Inv-loop μ-loop
 read-requires-2 c κs =
@@ -45,7 +45,7 @@ merge-entry-requires c κs =
     let s = d .before .before in
     let within = inside-read (s .args .s .now) (d .read .result) (w .loop .k) (r .read2 .result) (s .pre .1)
     (d .read .ensures) (search needs) (r .read2 .ensures) in
-    (w .loop .inv .cells, within .row, within .column)
+    (w .loop .inv .cells, within .row, within .column, w .loop .inv .limit _ _, within .most)
 
 add-k : tie.Need-add-k Inv-loop μ-loop
 add-k c = search needs
@@ -58,9 +58,11 @@ loop-again c =
     let r = c .before .before .before .before in
     let w = r .before .before in
     let d = w .before .before in
-    let a = d .before .before .args in
-    merging-turn (a .s .now) (a .j) (d .read .result .e) _ _ _ (w .loop .k) (r .read2 .result) (w .loop .inv) (search needs)
-    (r .read2 .ensures) (c .merge-entry .ensures)
+    let s = d .before .before in
+    let within = inside-read (s .args .s .now) (d .read .result) (w .loop .k) (r .read2 .result) (s .pre .1)
+    (d .read .ensures) (search needs) (r .read2 .ensures) in
+    merging-turn (s .args .s .now) (s .args .j) (d .read .result .e) _ _ _ (w .loop .k) (r .read2 .result) (w .loop .inv) (search needs)
+    (r .read2 .ensures) within (c .merge-entry .ensures)
 
 returns : tie.Need-returns Inv-loop μ-loop
 returns c =
