@@ -18,7 +18,7 @@ use Rattle.frame.specs.Header.{header}
 use Rattle.frame.specs.declared.entries.Entry.{Entry}
 use Rattle.frame.specs.declared.header.Header.{Header}
 use Rattle.matrix.proofs.Array.{entry-flat, flat-back, flat-ext, length-flat}
-use Rattle.matrix.proofs.Matrix.{merge-max, merge-own}
+use Rattle.matrix.proofs.Matrix.{merge-kept, merge-max, merge-own}
 use Rattle.matrix.proofs.Merged.{inside-single, merge-back, merge-limit, single-limit}
 use Rattle.matrix.specs.Array.{entry, flat}
 use Rattle.matrix.specs.Matrix.{Matrix, merge, single}
@@ -70,11 +70,8 @@ unfolding merge
 merge-array j f g = flat-ext (merge j (entry (flat f)) g) (merge j f g) (λ x y p q. rw (entry-flat f x y p q))
 
 merge-none : (j : ℕ) (l : List ℕ) → length l ≡ 144 → flat (merge j (entry l) (matrixOf [])) ≡ l
-merge-none j l e = flat-ext (merge j (entry l) (matrixOf [])) (entry l) (λ x y _ _. go x y (ℕ-discrete y j)) ∙ flat-back l e
-  where
-    go : (x y : ℕ) → Dec (y ≡ j) → merge j (entry l) (matrixOf []) x y ≡ entry l x y
-    go x y (yes p) = rw p (merge-own j (entry l) (matrixOf []) x)
-    go x y (no p) = merge-max j (entry l) (matrixOf []) x y p ∙ rw (look-none x y) (omega arith)
+merge-none j l e =
+    flat-ext (merge j (entry l) (matrixOf [])) (entry l) (λ x y _ _. merge-kept j (entry l) (matrixOf []) x y (look-none x y)) ∙ flat-back l e
 
 -- the loop: the entries from entry k on, merged into the array m, give what all give, merged into m₀
 pub record Merging (s : List ℕ) (j e : ℕ) (m₀ m : List ℕ) (k : ℕ) : Type 0 where

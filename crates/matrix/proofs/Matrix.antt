@@ -61,6 +61,14 @@ pub merge-max : (j : ℕ) (m e : Matrix) (x y : ℕ) → y ≢ j → merge j m e
 unfolding merge
 merge-max j m e x y h = cond-other y j (m x y) (max (m x y) (e x y)) h
 
+-- an entry that is merged with zero stays
+pub merge-kept : (j : ℕ) (m e : Matrix) (x y : ℕ) → e x y ≡ 0 → merge j m e x y ≡ m x y
+merge-kept j m e x y z = go (ℕ-discrete y j)
+  where
+    go : Dec (y ≡ j) → merge j m e x y ≡ m x y
+    go (yes p) = rw p (merge-own j m e x)
+    go (no p) = merge-max j m e x y p ∙ rw z (omega arith)
+
 pub nonZero-le : (v : ℕ) → nonZero v ≤ 1
 nonZero-le zero = omega arith
 nonZero-le (suc v) = omega arith

@@ -8,7 +8,7 @@ use native.Mathlib.Omega.{arith}
 use lib.Dec.{eqb, eqb-refl, eqb→eq, ltb, ltb→lt, lt→ltb, not-T}
 use lib.ListN.{getD, length, set}
 use Rattle.matrix.proofs.Array.{entry-in, flat-back, flat-ext, set-entry, set-flat, stored, stored-else, stored-here}
-use Rattle.matrix.proofs.Matrix.{clear-gone, clear-keep, clear-mine, merge-max, merge-own}
+use Rattle.matrix.proofs.Matrix.{clear-gone, clear-keep, clear-mine, merge-kept}
 use Rattle.matrix.specs.Array.{entry, flat}
 use Rattle.matrix.specs.Matrix.{Matrix, clear, merge, single}
 use Rattle.wire.proofs.Tests.{T-and, and-T, cond-no, cond-yes}
@@ -62,15 +62,7 @@ unfolding single
 single-else a b v x y h =
     cond-no (eqb x a && eqb y b) v 0 (not-T (eqb x a && eqb y b) (λ t. let p = and-T (eqb x a) (eqb y b) t in h (eqb→eq x a (p .0)) (eqb→eq y b (p .1))))
 
--- an entry that is merged with zero stays
-merge-kept : (j : ℕ) (m e : Matrix) (x y : ℕ) → e x y ≡ 0 → merge j m e x y ≡ m x y
-merge-kept j m e x y z = go (ℕ-discrete y j)
-  where
-    go : Dec (y ≡ j) → merge j m e x y ≡ m x y
-    go (yes p) = rw p (merge-own j m e x)
-    go (no p) = merge-max j m e x y p ∙ rw z (omega arith)
-
--- so one entry stays in the node's own column, and becomes the larger one in another
+-- it stays in the node's own column, and becomes the larger one in another
 pub merge-one : (l : List ℕ) (j x y v : ℕ) → length l ≡ 144 → x < 12 → y < 12
     → set l (12 * x + y) (cond (eqb y j) (getD l (12 * x + y) 0) (max (getD l (12 * x + y) 0) v)) ≡ flat (merge j (entry l) (single x y v))
 unfolding merge

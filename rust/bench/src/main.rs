@@ -2,10 +2,12 @@
 //!
 //! Both sides go from a record's image in bytes to the next one: the proved node over the lent image, the reference by
 //! reading it, its call by value, and writing it back. The last column is the reference's call alone, on a record that
-//! is read already. A round runs each side on COPIES copies of the state, or on each of a row's MERGES states; they are
-//! restored between rounds, which is not timed; outputs are not cleared between calls. Tables of their own have the
+//! is read already. A round runs each side on COPIES copies of the state, or on the next of a row's MERGES states; they
+//! are restored between rounds, which is not timed; outputs are not cleared between calls. Tables of their own have the
 //! whole load and the trail, which have no image. An argument is a part of the names of the rows to run.
 
+#[cfg(feature = "before")]
+mod before;
 mod loads;
 mod measure;
 mod states;
@@ -21,8 +23,8 @@ use std::slice::from_ref;
 
 /// Copies of a state, so that a round's time is long against the clock's.
 const COPIES: usize = 16;
-/// Different states of the rows with counts in random order, so that no branch on a count can be foreseen.
-const MERGES: u64 = 64;
+/// Different states of the rows with counts in random order: a processor can learn the outcomes of fewer by heart.
+const MERGES: u64 = 1024;
 /// Rounds of each side, in turn.
 const ROUNDS: usize = 301;
 /// Rounds before these that are not counted.
@@ -45,6 +47,11 @@ impl Bench {
         Bench { image: state.record.to_image(), record: state.record, shelf: state.shelf.clone(), out, body }
     }
 
+    /// The bytes that a call may change.
+    fn left(&self) -> (Image, &[u8], &[u8], &[u8]) {
+        (self.image, &self.shelf, &self.out, &self.body)
+    }
+
     /// The state as it was.
     fn restore(&mut self, state: &State) {
         self.record = state.record;
@@ -56,9 +63,10 @@ impl Bench {
 /// A side of a row.
 type Side<'a> = Box<dyn Fn(&mut Bench) -> u8 + 'a>;
 
-/// One round: nanoseconds a call.
-fn round(copies: &mut [Bench], states: &[State], side: &Side) -> f64 {
-    copies.iter_mut().zip(states.iter().cycle()).for_each(|(copy, state)| copy.restore(state));
+/// One round: nanoseconds a call, on the states that the rounds before it leave next.
+fn round(copies: &mut [Bench], states: &[State], turn: usize, side: &Side) -> f64 {
+    let next = states.iter().cycle().skip(turn * copies.len() % states.len());
+    copies.iter_mut().zip(next).for_each(|(copy, state)| copy.restore(state));
     let time = nanoseconds(|| {
         for copy in copies.iter_mut() {
             black_box(side(black_box(copy)));
@@ -72,8 +80,7 @@ fn check(name: &str, state: &State, sides: &[Side; 3]) {
     let mut after = vec![Bench::new(state); sides.len()];
     let results: Vec<u8> = sides.iter().zip(&mut after).map(|(side, copy)| side(copy)).collect();
     assert!(results.iter().all(|result| *result == results[0]), "{name}: {results:?}");
-    let left = |copy: &Bench| (copy.image, copy.shelf.clone(), copy.out.clone(), copy.body.clone());
-    assert!(left(&after[0]) == left(&after[1]), "{name}: the sides leave different bytes");
+    assert!(after[0].left() == after[1].left(), "{name}: the sides leave different bytes");
     assert!(Record::from_image(&after[0].image) == after[2].record, "{name}: the sides leave different records");
 }
 
@@ -83,16 +90,14 @@ fn row(name: &str, states: &[State], sides: [Side; 3]) {
         return;
     }
     states.iter().for_each(|state| check(name, state, &sides));
-    let mut copies: Vec<Bench> = states.iter().cycle().take(COPIES.max(states.len())).map(Bench::new).collect();
+    let mut copies = vec![Bench::new(&states[0]); COPIES];
     let mut times = [Vec::new(), Vec::new(), Vec::new()];
-    for _ in 0..WARM_UP {
-        sides.iter().for_each(|side| {
-            round(&mut copies, states, side);
-        });
-    }
-    for _ in 0..ROUNDS {
+    for turn in 0..WARM_UP + ROUNDS {
         for (side, times) in sides.iter().zip(&mut times) {
-            times.push(round(&mut copies, states, side));
+            let time = round(&mut copies, states, turn, side);
+            if turn >= WARM_UP {
+                times.push(time);
+            }
         }
     }
     let [proved, image, value] = times.map(median);
@@ -173,13 +178,36 @@ fn deliver_row(name: &str, states: &[State]) {
     row(name, states, [Box::new(proved), Box::new(image), Box::new(value)]);
 }
 
+/// The states with counts in random order.
+fn merges(n: usize) -> Vec<State> {
+    (1..=MERGES).map(|seed| states::merges(n, seed)).collect()
+}
+
+/// The name of a row with counts in random order.
+fn merges_name(n: usize) -> String {
+    format!("deliver, n {n}, 1 held, {} entries, counts in random order", (n - 1) * (n - 1))
+}
+
+/// Deliver before and after a change.
+#[cfg(feature = "before")]
+fn before_table() {
+    println!("| call | before | after | ratio |");
+    println!("|---|---|---|---|");
+    for n in [4, 12] {
+        before::row(&merges_name(n), &merges(n));
+        for size in [Size::Small, Size::Large] {
+            before::row(&format!("deliver, n {n}, {size}, 1 held"), &[state(n, 1, 1, size)]);
+        }
+    }
+}
+
 /// 0 for a call that was taken.
 fn taken_number(taken: bool) -> u8 {
     u8::from(!taken)
 }
 
 fn main() {
-    println!("ns a call, medians of {ROUNDS} rounds of {COPIES} calls ({MERGES} in random order); outputs are not cleared between calls");
+    println!("ns a call, medians of {ROUNDS} rounds of {COPIES} calls; outputs are not cleared between calls");
     println!("| call | proved, over the image | reference, image to image | ratio | reference by value | ratio |");
     println!("|---|---|---|---|---|---|");
     for n in [4, 12] {
@@ -202,9 +230,10 @@ fn main() {
             }
         }
         deliver_row(&format!("deliver, n {n}, cap {n}, 1 held, extras issued"), &[states::trims(n)]);
-        let merges: Vec<State> = (1..=MERGES).map(|seed| states::merges(n, seed)).collect();
-        deliver_row(&format!("deliver, n {n}, 1 held, {} entries, counts in random order", (n - 1) * (n - 1)), &merges);
+        deliver_row(&merges_name(n), &merges(n));
     }
+    #[cfg(feature = "before")]
+    before_table();
     loads::table();
     trails::table();
 }

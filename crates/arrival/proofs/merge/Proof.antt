@@ -2,7 +2,7 @@
 use Prim.Native.Nat.{_-_}
 use borrow.Author.Needs.{needs}
 use Rattle.arrival.proofs.Merging.{Merging, merging-end, merging-start, merging-turn}
-use Rattle.arrival.proofs.Sound.{entry-room, header-room, inside-read}
+use Rattle.arrival.proofs.Sound.{Inside, entry-room, header-room, inside-read}
 use Rattle.arrival.proofs.merge.Statement.{statement}
 use Rattle.arrival.proofs.merge.Tie as tie
 
@@ -37,15 +37,20 @@ cast-merge-entry c = search needs
 cast-merge-entry-2 : tie.Need-cast-merge-entry-2 Inv-loop μ-loop
 cast-merge-entry-2 c = search needs
 
-merge-entry-requires : tie.Need-merge-entry-requires Inv-loop μ-loop
-merge-entry-requires c κs =
-    let r = c .before .before .before in
+-- the entry that was read
+within : (r : tie.After-read2 Inv-loop μ-loop) → Inside (r .read2 .result)
+within r =
     let w = r .before .before in
     let d = w .before .before in
     let s = d .before .before in
-    let within = inside-read (s .args .s .now) (d .read .result) (w .loop .k) (r .read2 .result) (s .pre .1)
-    (d .read .ensures) (search needs) (r .read2 .ensures) in
-    (w .loop .inv .cells, within .row, within .column, w .loop .inv .limit _ _, within .most)
+    inside-read (s .args .s .now) (d .read .result) (w .loop .k) (r .read2 .result) (s .pre .1) (d .read .ensures) (search needs) (r .read2 .ensures)
+
+merge-entry-requires : tie.Need-merge-entry-requires Inv-loop μ-loop
+merge-entry-requires c κs =
+    let r = c .before .before .before in
+    let i = within r in
+    let w = r .before .before .loop .inv in
+    (w .cells, i .row, i .column, w .limit _ _, i .most)
 
 add-k : tie.Need-add-k Inv-loop μ-loop
 add-k c = search needs
@@ -58,11 +63,9 @@ loop-again c =
     let r = c .before .before .before .before in
     let w = r .before .before in
     let d = w .before .before in
-    let s = d .before .before in
-    let within = inside-read (s .args .s .now) (d .read .result) (w .loop .k) (r .read2 .result) (s .pre .1)
-    (d .read .ensures) (search needs) (r .read2 .ensures) in
-    merging-turn (s .args .s .now) (s .args .j) (d .read .result .e) _ _ _ (w .loop .k) (r .read2 .result) (w .loop .inv) (search needs)
-    (r .read2 .ensures) within (c .merge-entry .ensures)
+    let a = d .before .before .args in
+    merging-turn (a .s .now) (a .j) (d .read .result .e) _ _ _ (w .loop .k) (r .read2 .result) (w .loop .inv) (search needs)
+    (r .read2 .ensures) (within r) (c .merge-entry .ensures)
 
 returns : tie.Need-returns Inv-loop μ-loop
 returns c =

@@ -1,0 +1,38 @@
+//! With the feature `before`, links the deliver of an earlier archive and the present one as `before_deliver` and
+//! `after_deliver`, both placed alike: where a function begins can change its time by more than the change that is timed.
+
+use std::path::{Path, PathBuf};
+use std::process::Command;
+
+fn main() {
+    println!("cargo:rerun-if-env-changed=BEFORE");
+    if std::env::var_os("CARGO_FEATURE_BEFORE").is_none() {
+        return;
+    }
+    let before = PathBuf::from(variable("BEFORE"));
+    let after = Path::new(&variable("CARGO_MANIFEST_DIR")).join("../../target/staticlib/libnode_c.a");
+    let folder = PathBuf::from(variable("OUT_DIR"));
+    println!("cargo:rustc-link-search=native={}", folder.display());
+    for (name, archive) in [("before", before), ("after", after)] {
+        println!("cargo:rerun-if-changed={}", archive.display());
+        rename(name, &archive, &folder.join(format!("lib{name}.a")));
+        println!("cargo:rustc-link-lib=static={name}");
+    }
+}
+
+/// A variable of the environment.
+fn variable(name: &str) -> String {
+    std::env::var(name).unwrap_or_else(|_| panic!("{name} is not set (BEFORE names an earlier libnode_c.a)"))
+}
+
+/// Copies an archive with its functions on lines of the cache, `node_deliver` renamed and every other function hidden.
+fn rename(name: &str, archive: &Path, copy: &Path) {
+    let status = Command::new("objcopy")
+        .arg("--set-section-alignment=.text.*=64")
+        .arg(format!("--redefine-sym=node_deliver={name}_deliver"))
+        .arg(format!("--keep-global-symbol={name}_deliver"))
+        .args([archive, copy])
+        .status()
+        .expect("objcopy runs (it comes with the linker, in binutils)");
+    assert!(status.success(), "objcopy cannot copy {}", archive.display());
+}
