@@ -115,12 +115,10 @@ pub fn merges(n: usize, seed: u64) -> State {
     let places = (0..n).flat_map(|row| (0..n).map(move |column| (row, column)));
     for (row, column) in places.filter(|(row, column)| row != column) {
         let kept = random.within(1, COUNT) as u32;
-        let most = if column == 0 {
-            DELIVERED as usize
-        } else if row == 0 {
-            kept as usize
-        } else {
-            COUNT
+        let most = match (row, column) {
+            (_, 0) => DELIVERED as usize,
+            (0, _) => kept as usize,
+            _ => COUNT,
         };
         if column != 0 {
             *state.record.entry_mut(row, column) = kept;
