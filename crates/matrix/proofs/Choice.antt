@@ -1,7 +1,7 @@
 -- The sign of a difference of two counts, and the count that is chosen by it. Assumes nothing.
 use Prim.Native.Nat.{_*_, _+_, _-_, _<_, _≤_, max, suc, zero, ℕ}
 use mathlib.Core.Bool.{Bool, cond, false, true}
-use mathlib.Core.Path.{_∙_, _≡_, ap, refl}
+use mathlib.Core.Path.{_≡_, ap, refl}
 use native.Mathlib.Decide.{decLt}
 use native.Mathlib.Nat.{mul-le-mul}
 use native.Mathlib.Omega.{arith}
@@ -41,32 +41,19 @@ sign a b p q = go (decLt a b)
 abbrev left : ℕ → ℕ → ℤ
 left a b = toZ w32 (ofZ w32 (shrZ (toZ w32 (ofZ w32 (toZ w32 a -ℤ toZ w32 b))) 2147483648))
 
--- so each step of the code fits, and one more than what is left is 0 where a is the smaller and else 1
-pub record Taken (a b : ℕ) : Type 0 where
-  pub difference : SFits w32 (toZ w32 a -ℤ toZ w32 b)
-  pub more : SFits w32 (left a b +ℤ pos 1)
-  pub positive : T (nonNeg (toZ w32 (ofZ w32 (left a b +ℤ pos 1))))
-  pub small : Fits w32 (natAbs (toZ w32 (ofZ w32 (left a b +ℤ pos 1))))
-  pub value : natAbs (toZ w32 (ofZ w32 (left a b +ℤ pos 1))) ≡ cond (ltb a b) 0 1
+-- so one more fits and is no negative number, and it is 0 where a is the smaller and else 1
+pub record OneMore (z : ℤ) (t : Bool) : Type 0 where
+  pub fits : SFits w32 (z +ℤ pos 1)
+  pub positive : T (nonNeg (toZ w32 (ofZ w32 (z +ℤ pos 1))))
+  pub small : Fits w32 (natAbs (toZ w32 (ofZ w32 (z +ℤ pos 1))))
+  pub value : natAbs (toZ w32 (ofZ w32 (z +ℤ pos 1))) ≡ cond t 0 1
 
-pub taken : (a b : ℕ) → a ≤ maxCount → b ≤ maxCount → Taken a b
-taken a b p q = go (ltb a b) refl
-  where
-    s : Sign a b
-    s = sign a b p q
+one-more : (t : Bool) → OneMore (toZ w32 (ofZ w32 (cond t (negsuc 0) (pos 0)))) t
+one-more true = record { fits = record { sfits = omega arith }; positive = tt; small = record { fits = omega arith }; value = refl }
+one-more false = record { fits = record { sfits = omega arith }; positive = tt; small = record { fits = omega arith }; value = refl }
 
-    signed : (t : Bool) → ltb a b ≡ t → left a b ≡ toZ w32 (ofZ w32 (cond t (negsuc 0) (pos 0)))
-    signed t e =
-        ap (λ (z : ℤ). toZ w32 (ofZ w32 (shrZ z 2147483648))) (toZ-ofZ (s .fits))
-        ∙ ap (λ (z : ℤ). toZ w32 (ofZ w32 z)) (s .shifted ∙ ap (λ (u : Bool). cond u (negsuc 0) (pos 0)) e)
-
-    all : (z : ℤ) (t : Bool) → left a b ≡ z → SFits w32 (z +ℤ pos 1) → T (nonNeg (toZ w32 (ofZ w32 (z +ℤ pos 1))))
-        → Fits w32 (natAbs (toZ w32 (ofZ w32 (z +ℤ pos 1)))) → natAbs (toZ w32 (ofZ w32 (z +ℤ pos 1))) ≡ cond t 0 1 → ltb a b ≡ t → Taken a b
-    all z t l m o f v e = record { difference = s .fits; more = rw l m; positive = rw l o; small = rw l f; value = rw (l, e) v }
-
-    go : (t : Bool) → ltb a b ≡ t → Taken a b
-    go true e = all (negsuc 0) true (signed true e) (record { sfits = omega arith }) tt (record { fits = omega arith }) refl e
-    go false e = all (pos 0) false (signed false e) (record { sfits = omega arith }) tt (record { fits = omega arith }) refl e
+pub taken : (a b : ℕ) → Sign a b → OneMore (left a b) (ltb a b)
+taken a b s = rw (toZ-ofZ (s .fits), s .shifted) (one-more (ltb a b))
 
 -- a sign or a flag s chooses: s times a, and one less s times b
 pub one-of : (s a b : ℕ) → s ≤ 1 → s * a + (1 - s) * b ≡ cond (eqb s 1) a b

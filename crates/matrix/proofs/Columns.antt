@@ -6,7 +6,7 @@ use mathlib.Core.Path.{_≡_, sym, ap, _∙_}
 use native.Mathlib.Decide.{ℕ-discrete, decLe}
 use native.Mathlib.Omega.{arith}
 use lib.Dec.{leb, le→leb}
-use Rattle.matrix.proofs.Matrix.{largest-lt, largest-le, clear-mine, clear-gone, clear-keep, only-col, only-zero, merge-own, merge-max, nonZero-le}
+use Rattle.matrix.proofs.Matrix.{largest-lt, largest-le, clear-mine, clear-gone, clear-keep, only-col, only-zero, merge-kept, merge-own, nonZero-le}
 use Rattle.matrix.proofs.Sums.{sum-ext, sum-at, sum-ones, sum-le, sum-change, sum-single}
 use Rattle.matrix.specs.Matrix.{Matrix, sum, nonZero, columnCount, count, fullest, clear, only, merge}
 use Rattle.wire.proofs.Tests.{cond-elim, cond-yes, cond-no, lt→nleb}
@@ -132,15 +132,11 @@ only-rules n me l m f ne = record {
 -- a merge keeps the rules
 pub merge-rules : (n me k : ℕ) (m e : Matrix) → MatrixRules n me m → MatrixRules n k e → MatrixRules n me (merge me m e)
 merge-rules n me k m e f f′ = record {
-  rows = λ x y h. zero x y (f .rows x y h) (f′ .rows x y h) (ℕ-discrete y me);
-  columns = λ x y h. zero x y (f .columns x y h) (f′ .columns x y h) (ℕ-discrete y me);
-  diagonal = λ x. zero x x (f .diagonal x) (f′ .diagonal x) (ℕ-discrete x me);
+  rows = λ x y h. merge-kept me m e x y (f′ .rows x y h) ∙ f .rows x y h;
+  columns = λ x y h. merge-kept me m e x y (f′ .columns x y h) ∙ f .columns x y h;
+  diagonal = λ x. merge-kept me m e x x (f′ .diagonal x) ∙ f .diagonal x;
   own = λ x. merge-own me m e x ∙ f .own x;
 }
-  where
-    zero : (x y : ℕ) → m x y ≡ 0 → e x y ≡ 0 → Dec (y ≡ me) → merge me m e x y ≡ 0
-    zero x y a b (yes q) = let z : m x me ≡ 0 = rw q at a in rw q (merge-own me m e x ∙ z)
-    zero x y a b (no q) = omega (arith, merge-max me m e x y q)
 
 -- how many columns have two entries or more: a trim's round takes one off
 wide : Matrix → ℕ → ℕ

@@ -3,7 +3,7 @@ use Prim.Native.Nat.{_+_, _<_, _≤_, max, suc, zero, ℕ}
 use mathlib.Core.Bool.{cond}
 use mathlib.Core.Logic.{_≢_, _⊎_, inl, inr}
 use mathlib.Core.Path.{_∙_, _≡_, ap, refl, sym}
-use native.Mathlib.Decide.{ℕ-discrete}
+use native.Mathlib.Decide.{decLe, ℕ-discrete}
 use native.Mathlib.Nat.{not-suc-le-zero}
 use native.Mathlib.Numerals.{add-one}
 use native.Mathlib.Omega.{arith}
@@ -60,6 +60,15 @@ merge-own j m e x = cond-same j (m x j) (max (m x j) (e x j))
 pub merge-max : (j : ℕ) (m e : Matrix) (x y : ℕ) → y ≢ j → merge j m e x y ≡ max (m x y) (e x y)
 unfolding merge
 merge-max j m e x y h = cond-other y j (m x y) (max (m x y) (e x y)) h
+
+-- each entry is one of the two
+pub merge-from : (j : ℕ) (m e : Matrix) (x y : ℕ) → (merge j m e x y ≡ m x y) ⊎ (merge j m e x y ≡ e x y)
+merge-from j m e x y = go (ℕ-discrete y j) (decLe (e x y) (m x y))
+  where
+    go : Dec (y ≡ j) → Dec (e x y ≤ m x y) → (merge j m e x y ≡ m x y) ⊎ (merge j m e x y ≡ e x y)
+    go (yes p) d = inl (rw p (merge-own j m e x))
+    go (no p) (yes d) = inl (omega (arith, merge-max j m e x y p))
+    go (no p) (no d) = inr (omega (arith, merge-max j m e x y p))
 
 -- an entry that is merged with zero stays
 pub merge-kept : (j : ℕ) (m e : Matrix) (x y : ℕ) → e x y ≡ 0 → merge j m e x y ≡ m x y

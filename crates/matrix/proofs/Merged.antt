@@ -1,29 +1,22 @@
 -- A merge of matrices that are zero outside the twelve rows and columns, or within a limit, is so too. Assumes nothing.
 use Prim.Native.Nat.{_<_, _≤_, ℕ}
 use mathlib.Core.List.{List}
-use mathlib.Core.Path.{_∙_, _≡_, ap, sym}
+use mathlib.Core.Logic.{⊎-elim}
+use mathlib.Core.Path.{_∙_, _≡_}
 use native.Mathlib.Decide.{ℕ-discrete}
 use native.Mathlib.Omega.{arith}
 use Rattle.matrix.proofs.Array.{entry-back}
 use Rattle.matrix.proofs.Cleared.{Inside, inside-entry}
-use Rattle.matrix.proofs.Matrix.{merge-max, merge-own}
+use Rattle.matrix.proofs.Matrix.{merge-from, merge-kept}
 use Rattle.matrix.proofs.Stores.{single-else, single-here}
 use Rattle.matrix.specs.Array.{entry, flat}
 use Rattle.matrix.specs.Matrix.{Matrix, merge, single}
 
-pub inside-merge : (j : ℕ) (m e : Matrix) → Inside m → Inside e → Inside (merge j m e)
-inside-merge j m e p q x y h = go (ℕ-discrete y j)
-  where
-    go : Dec (y ≡ j) → merge j m e x y ≡ 0
-    go (yes a) = rw a (merge-own j m e x ∙ ap (m x) (sym a) ∙ p x y h)
-    go (no a) = merge-max j m e x y a ∙ rw (p x y h, q x y h)
+inside-merge : (j : ℕ) (m e : Matrix) → Inside m → Inside e → Inside (merge j m e)
+inside-merge j m e p q x y h = merge-kept j m e x y (q x y h) ∙ p x y h
 
 pub merge-limit : (j : ℕ) (m e : Matrix) (k : ℕ) → ((x y : ℕ) → m x y ≤ k) → ((x y : ℕ) → e x y ≤ k) → (x y : ℕ) → merge j m e x y ≤ k
-merge-limit j m e k p q x y = go (ℕ-discrete y j)
-  where
-    go : Dec (y ≡ j) → merge j m e x y ≤ k
-    go (yes a) = rw (a, merge-own j m e x) (p x j)
-    go (no a) = rw (merge-max j m e x y a) (omega (arith, p x y, q x y))
+merge-limit j m e k p q x y = ⊎-elim (λ a. omega (arith, a, p x y)) (λ a. omega (arith, a, q x y)) (merge-from j m e x y)
 
 -- so the array of a merged matrix has that matrix
 pub merge-back : (j : ℕ) (l : List ℕ) (e : Matrix) → Inside e → entry (flat (merge j (entry l) e)) ≡ merge j (entry l) e

@@ -2,10 +2,10 @@
 use Prim.Native.Nat.{ℕ, _≤_, _<_, max}
 use mathlib.Core.Logic.{_⊎_, inl, inr, _≢_}
 use mathlib.Core.Path.{_≡_, refl}
-use native.Mathlib.Decide.{ℕ-discrete, decLe}
+use native.Mathlib.Decide.{ℕ-discrete}
 use native.Mathlib.Omega.{arith}
 use Rattle.matrix.proofs.Columns.{MatrixRules, merge-rules}
-use Rattle.matrix.proofs.Matrix.{merge-own, merge-max}
+use Rattle.matrix.proofs.Matrix.{merge-from, merge-max, merge-own}
 use Rattle.matrix.specs.Matrix.{Matrix, count, merge}
 use Rattle.matrix.specs.Message.{Kind, user, extra}
 use Rattle.protocol.proofs.Trim.{Rounds, done, trim-rounds, trim-ends}
@@ -41,13 +41,8 @@ learned-le k i m e x y = go (learned-case k i m e x y)
 
 -- each entry is the old one or the message's
 pub learned-from : (k : Kind) (i : ℕ) (m e : Matrix) (x y : ℕ) → (learned k i m e x y ≡ m x y) ⊎ (learned k i m e x y ≡ e x y)
-learned-from k i m e x y = go (learned-case k i m e x y) (decLe (e x y) (m x y))
-  where
-    go : (learned k i m e x y ≡ m x y) ⊎ ((y ≢ i) × (learned k i m e x y ≡ max (m x y) (e x y))) → Dec (e x y ≤ m x y)
-        → (learned k i m e x y ≡ m x y) ⊎ (learned k i m e x y ≡ e x y)
-    go (inl a) b = inl a
-    go (inr a) (yes b) = inl (omega (arith, a .1))
-    go (inr a) (no b) = inr (omega (arith, a .1))
+learned-from user i m e x y = merge-from i m e x y
+learned-from extra i m e x y = inl refl
 
 -- a user message's entries are reached outside the own column
 pub learned-user : (k : Kind) (i : ℕ) (m e : Matrix) (x y : ℕ) → k ≡ user → y ≢ i → e x y ≤ learned k i m e x y

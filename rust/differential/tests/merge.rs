@@ -38,6 +38,7 @@ fn deliver(kept: u32, carried: u32, own: u32) -> Outcome {
 #[test]
 fn the_larger_count_stays_and_the_own_column_is_zero() {
     let counts = counts();
+    assert!(counts.contains(&0) && counts.contains(&Record::COUNT));
     for kept in &counts {
         for carried in counts.iter().filter(|carried| **carried > 0) {
             let own = (*carried).min(Record::COUNT - 1);
@@ -47,7 +48,6 @@ fn the_larger_count_stays_and_the_own_column_is_zero() {
             assert_eq!(*outcome.record.entry_mut(2, 0), 0, "{own} in the own column");
         }
     }
-    assert_eq!(counts.len(), 89);
 }
 
 #[test]

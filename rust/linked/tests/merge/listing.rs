@@ -21,9 +21,10 @@ impl Instruction {
         Some(Instruction { address, name: name.to_string(), operands: operands.trim().to_string() })
     }
 
-    /// Whether it may or may not jump.
+    /// Whether more than one instruction may follow it: it may or may not jump, or jumps where a register or a table says.
     pub fn is_conditional(&self) -> bool {
-        (self.name.starts_with('j') && !self.name.starts_with("jmp")) || self.name.starts_with("loop")
+        let jumps = self.name.starts_with('j') || self.name.starts_with("loop");
+        jumps && (!self.name.starts_with("jmp") || self.operands.starts_with('*'))
     }
 
     /// Whether it calls a function, whose jumps would not be seen.

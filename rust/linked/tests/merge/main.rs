@@ -94,6 +94,12 @@ fn a_jump_back_a_jump_on_and_a_jump_out_are_found() {
 }
 
 #[test]
+fn a_jump_by_a_table_is_found() {
+    let found = fault(&with_line(" 54a:	jmp    *0x0(,%rdx,8)")).unwrap();
+    assert!(found.starts_with("the loop of the merge has 2 conditional jumps:"), "{found}");
+}
+
+#[test]
 fn a_call_is_found() {
     let found = fault(&with_line(" 54a:	call   700 <matrix::larger>")).unwrap();
     assert!(found.starts_with("the loop of the merge has a call:"), "{found}");
