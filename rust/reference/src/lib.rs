@@ -17,6 +17,7 @@ pub mod plant;
 pub mod program;
 pub mod random;
 pub mod record;
+pub mod recount;
 pub mod shelf;
 pub mod text;
 pub mod trail;

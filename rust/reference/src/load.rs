@@ -11,16 +11,16 @@ pub const INPUT: usize = 3 * DIGITS + 3;
 /// A field has at most this many digits.
 const DIGITS: usize = 10;
 /// Frames that may be issued under each cap.
-const ISSUES: usize = 180;
+pub const ISSUES: usize = 180;
 /// Draws that a load may have.
 const DRAWS: RangeInclusive<usize> = 1..=400;
 
 /// What the line asks for: n, the seed and the draws.
 #[derive(Clone, Copy, Debug, PartialEq, Eq)]
-struct Load {
-    n: usize,
-    seed: u32,
-    draws: usize,
+pub struct Load {
+    pub n: usize,
+    pub seed: u32,
+    pub draws: usize,
 }
 
 /// What the program prints for this input.
@@ -29,7 +29,7 @@ pub fn load(input: &[u8]) -> Vec<u8> {
 }
 
 /// The load that the input asks for; nothing for one that gets 18.
-fn read(input: &[u8]) -> Option<Load> {
+pub fn read(input: &[u8]) -> Option<Load> {
     let [n, seed, draws] = fields(input.strip_suffix(b"\n")?)[..] else {
         return None;
     };
@@ -38,16 +38,21 @@ fn read(input: &[u8]) -> Option<Load> {
     (NODES.contains(&load.n) && load.seed != 0 && DRAWS.contains(&load.draws)).then_some(load)
 }
 
-/// Runs the load once for each cap from n to n × n, and prints each cap and its T numbers as a line.
+/// Runs the load once for each cap, and prints each cap and its T numbers as a line.
 impl Display for Load {
     fn fmt(&self, f: &mut Formatter<'_>) -> fmt::Result {
-        (self.n..=self.n * self.n).try_for_each(|cap| writeln!(f, "{cap} {}", self.run(cap)))
+        self.caps().try_for_each(|cap| writeln!(f, "{cap} {}", self.run(cap)))
     }
 }
 
 impl Load {
+    /// The caps under which it runs: from n to n × n.
+    pub fn caps(&self) -> RangeInclusive<usize> {
+        self.n..=self.n * self.n
+    }
+
     /// The tally of a plant with this cap after the draws.
-    fn run(&self, cap: usize) -> Tally {
+    pub fn run(&self, cap: usize) -> Tally {
         let mut plant = Plant::start(self.n, cap, ISSUES).expect("n and cap are in range");
         for draw in Xorshift::new(self.seed).take(self.draws) {
             step(&mut plant, draw as usize);

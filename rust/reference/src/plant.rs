@@ -9,7 +9,8 @@ use std::ops::RangeInclusive;
 /// Nodes that a plant may have.
 pub const NODES: RangeInclusive<usize> = 2..=4;
 
-/// User frames, extras, frames delivered, delays (delivers that answer none), and the extras' [`share`].
+/// User frames, extras, frames delivered, delays (frames that were not deliverable when their offer was accepted), and
+/// the extras' [`share`].
 #[derive(Clone, Copy, Debug, Default, PartialEq, Eq)]
 pub struct Tally {
     pub users: usize,
@@ -75,24 +76,25 @@ impl Plant {
         Some(answer)
     }
 
-    /// An offer of an issued frame, counted from 0, at its destination.
+    /// An offer of an issued frame, counted from 0, at its destination. A frame is accepted at most once, so a delay is
+    /// counted once, and a refused offer counts nothing.
     pub fn offer(&mut self, issue: usize) -> OfferAnswer {
-        self.list.offer(self.list.frame(issue).to(), issue)
+        let answer = self.list.offer(self.list.frame(issue).to(), issue);
+        if let OfferAnswer::Held { deliverable: false, .. } = answer {
+            self.tally.delays += 1;
+        }
+        answer
     }
 
-    /// A deliver at a node; nothing with fewer than n issues left.
+    /// A deliver at a node; nothing with fewer than n issues left. An answer of none counts nothing.
     pub fn deliver(&mut self, node: usize) -> Option<DeliverAnswer> {
         if !self.has_room() {
             return None;
         }
         let (answer, _) = self.list.deliver(node);
-        match answer {
-            DeliverAnswer::None { .. } => self.tally.delays += 1,
-            DeliverAnswer::Delivered(delivery) => {
-                self.tally.delivered += 1;
-                self.tally.count_issued(0, delivery.extras);
-            }
-            DeliverAnswer::Refused(_) => (),
+        if let DeliverAnswer::Delivered(delivery) = answer {
+            self.tally.delivered += 1;
+            self.tally.count_issued(0, delivery.extras);
         }
         Some(answer)
     }

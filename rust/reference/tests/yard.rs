@@ -15,6 +15,7 @@ fn line(text: &str) -> String {
 
 #[test]
 fn the_example() {
+    // Issue 3 carries (0,2) = 1 and is offered before issue 1 is delivered at 2: 1 delay.
     let input = "3 3\nS 0 2\nS 0 1\nA 2\nD 1\nS 1 2\nA 3\nD 2\nA 1\nD 2\nD 2\n";
     let output =
         "S 1 0 2 0\nS 2 0 1 1\nA 2 1\nD 1 2 1\nS 3 1 2 1\nA 3 1\nN 2 1\nA 1 2\nD 2 1 2\nD 2 3 1\nT 3 0 3 1 0\n";
@@ -66,7 +67,7 @@ fn other_lines() {
     for text in lines {
         assert_eq!(line(text), "R 17\n", "{text:?}");
     }
-    assert_eq!(printed(b"3 3\n\xFF\0\nD 1\n"), "R 17\nN 1 0\nT 0 0 0 1 0\n");
+    assert_eq!(printed(b"3 3\n\xFF\0\nD 1\n"), "R 17\nN 1 0\nT 0 0 0 0 0\n");
 }
 
 #[test]
@@ -101,11 +102,13 @@ fn sends(count: usize) -> String {
 #[test]
 fn sixty_four_issues() {
     for (n, last) in [(2, 63), (3, 62), (4, 61)] {
+        // The last frame waits for those before it, so it is a delay.
         let output = printed(format!("{n} {n}\n{}S 0 999\nD 1\nD 9\nA {last}\n", sends(last)));
-        let end = format!("R 17\nR 17\nR 17\nA {last} 1\nT {last} 0 0 0 0\n");
+        let end = format!("R 17\nR 17\nR 17\nA {last} 1\nT {last} 0 0 1 0\n");
         assert!(output.ends_with(&end), "{output}");
+        // Nothing is offered, so nothing is delayed.
         let output = printed(format!("{n} {n}\n{}S 0 999\nD 1\nS 0 1\nS 0 1\nD 0\n", sends(last - 1)));
-        let end = format!("R 6\nN 1 0\nS {last} 0 1 1\nR 17\nR 17\nT {last} 0 0 1 0\n");
+        let end = format!("R 6\nN 1 0\nS {last} 0 1 1\nR 17\nR 17\nT {last} 0 0 0 0\n");
         assert!(output.ends_with(&end), "{output}");
     }
 }
@@ -115,7 +118,8 @@ fn an_extra_is_printed_counted_and_delivered() {
     let lines = "3 3\nS 0 1\nS 0 2\nS 1 2\nS 1 0\nS 2 1\nS 2 0\nA 4\nD 0\nA 6\nD 0\nA 1\nA 5\nA 7\nD 1\nD 1\nD 1\n";
     let issued = "S 1 0 1 0\nS 2 0 2 1\nS 3 1 2 0\nS 4 1 0 1\nS 5 2 1 0\nS 6 2 0 1\n";
     let brought = "A 4 1\nD 0 4 1\nA 6 1\nD 0 6 1\nX 7 0 1 2\nA 1 1\nA 5 2\nA 7 3\nD 1 1 1\nD 1 5 1\nD 1 7 1\n";
-    assert_eq!(printed(lines), format!("{issued}{brought}T 6 1 5 0 17\n"));
+    // The extra waits for issues 1 and 5, which are held and not yet delivered when it is offered: 1 delay.
+    assert_eq!(printed(lines), format!("{issued}{brought}T 6 1 5 1 17\n"));
 }
 
 #[test]
