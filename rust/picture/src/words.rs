@@ -5,11 +5,11 @@ use crate::texts::name;
 use reference::plant::Tally;
 use reference::yard::Run;
 
-/// The run in one line.
+/// The run in one line; a frame that had to wait when it was accepted is delayed, however many waits it saw.
 pub fn summary(run: &Run) -> String {
     let Tally { users, extras, delivered, delays, .. } = run.tally;
     let frames = format!("{}, {}", count(users, "user frame"), count(extras, "extra frame"));
-    let end = format!("{delivered} delivered, {}", count(delays, "wait"));
+    let end = format!("{delivered} delivered, {delays} delayed");
     format!("{} nodes, cap {}, {}: {frames}, {end}", run.n, run.cap, count(run.lines.len(), "step"))
 }
 

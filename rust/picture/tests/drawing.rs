@@ -39,7 +39,7 @@ fn each_frame_of_the_example() {
     );
     assert_eq!(words(&svg, "extra"), [""; 0]);
     assert_eq!(labels(&svg, "user"), ["1 (0)", "2 (1)", "3 (1)"]);
-    let summary = "3 nodes, cap 3, 10 steps: 3 user frames, 0 extra frames, 3 delivered, 1 wait";
+    let summary = "3 nodes, cap 3, 10 steps: 3 user frames, 0 extra frames, 3 delivered, 1 delayed";
     assert!(svg.contains(&format!("<title>{summary}</title>")) && svg.contains(&format!(">{summary}</text>")));
 }
 
@@ -138,6 +138,14 @@ fn a_wait_is_marked_at_its_node_and_step() {
     assert_eq!(only(group, "halo").content, "wait");
 }
 
+#[test]
+fn a_delayed_frame_is_counted_once_and_each_wait_is_marked() {
+    // Issue 2 waits for issue 1: two waits pass over it, and the third is on an empty shelf.
+    let svg = draw("2 2\nS 0 1\nS 0 1\nA 2\nD 1\nD 1\nD 0\n");
+    assert_eq!(words(&svg, "wait").len(), 3);
+    assert!(svg.contains("2 nodes, cap 2, 6 steps: 2 user frames, 0 extra frames, 0 delivered, 1 delayed</title>"));
+}
+
 /// That the one refusal of an input is marked with this number at this step, counted from 1, and node.
 fn assert_refusal(input: &str, number: u8, step: usize, node: Option<usize>) {
     let svg = draw(input);
@@ -215,7 +223,7 @@ fn what_is_no_yard_input_has_no_picture() {
 fn an_empty_run_has_its_nodes_and_a_legend() {
     let svg = draw("4 9\n");
     assert_eq!(heights(&svg).len(), 4);
-    assert!(svg.contains(">4 nodes, cap 9, 0 steps: 0 user frames, 0 extra frames, 0 delivered, 0 waits</text>"));
+    assert!(svg.contains(">4 nodes, cap 9, 0 steps: 0 user frames, 0 extra frames, 0 delivered, 0 delayed</text>"));
     let drawn = |element: &Element| ["flight", "bar", "cross", "halo", "grid"].iter().any(|class| element.is(class));
     assert!(!diagram(&svg).iter().any(drawn));
     for meaning in [
