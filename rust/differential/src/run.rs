@@ -7,6 +7,7 @@ use crate::trails::compare_trail;
 use crate::{compare, Difference};
 use generate::counts::Counts;
 use generate::{Call, Case, Generator};
+use reference::recount::Fates;
 
 /// How many calls of the node and of the trail and inputs of the programs were compared and what they answered; inputs
 /// of a program that is not named are left out.
@@ -65,15 +66,19 @@ impl Tally {
     }
 }
 
+/// What becomes of the offers and the delivers in the inputs that [`compare_inputs`] compares.
+pub fn fates_of_inputs(seeds: &[u64], inputs: usize, next: fn(&mut Generator) -> Case) -> Fates {
+    let cases = seeds.iter().flat_map(|seed| Generator::cases(*seed, inputs, next));
+    cases.map(|case| case.call.fates()).sum()
+}
+
 /// Compares so many inputs of a program from each seed, none of which may differ.
 pub fn compare_inputs(seeds: &[u64], inputs: usize, next: fn(&mut Generator) -> Case, programs: &Programs) -> Tally {
     let mut tally = Tally::default();
     for seed in seeds {
-        let mut generator = Generator::new(*seed);
-        for index in 1..=inputs {
-            let case = next(&mut generator);
+        for (index, case) in Generator::cases(*seed, inputs, next).enumerate() {
             if let Err(difference) = tally.add(&case, programs) {
-                panic!("{difference}\n{} input {index} of seed {seed}", case.call.name());
+                panic!("{difference}\n{} input {} of seed {seed}", case.call.name(), index + 1);
             }
         }
     }

@@ -1,9 +1,10 @@
-//! The compiled load and the linked one beside the reference's: generated lines, valid and damaged, loads that come to
-//! the end of their issues, loads with halves in their shares, and the stored lines.
+//! The compiled load and the linked one beside the reference's: generated lines, valid and damaged, which meet every
+//! case of a delay, loads that come to the end of their issues, loads with halves in their shares, and the stored
+//! lines.
 
 use differential::printed::linked_differs;
 use differential::program::{compiled, complaint, output, Programs};
-use differential::run::compare_inputs;
+use differential::run::{compare_inputs, fates_of_inputs};
 use differential::stored;
 use generate::Generator;
 use linked::load::OUTPUT;
@@ -22,6 +23,13 @@ fn generated_lines_valid_and_damaged() {
     let damaged = tally.counts.of("load", 18);
     assert_eq!(tally.loads, SEEDS.len() * LINES);
     assert!((850..1_150).contains(&damaged), "{damaged} of {} lines are damaged", tally.loads);
+}
+
+#[test]
+fn generated_lines_meet_every_case_of_a_delay() {
+    let fates = fates_of_inputs(&SEEDS, LINES, Generator::load);
+    println!("{fates:?}");
+    assert_eq!(fates.seldom(50), [], "{fates:?}");
 }
 
 /// Holds the compiled load and the linked one against the reference on one line.

@@ -1,7 +1,8 @@
-//! The compiled yard beside the reference's: generated inputs, valid and damaged, and the stored ones.
+//! The compiled yard beside the reference's: generated inputs, valid and damaged, which meet every case of a delay, and
+//! the stored ones.
 
 use differential::program::{compiled, complaint, from_top, Programs};
-use differential::run::compare_inputs;
+use differential::run::{compare_inputs, fates_of_inputs};
 use differential::stored;
 use generate::{Call, Generator};
 
@@ -32,6 +33,13 @@ fn generated_inputs_are_valid_and_damaged() {
     });
     let (alone, others): (Vec<_>, Vec<_>) = inputs.partition(|input| reference::yard(input) == b"R 17\n");
     assert!(alone.len() > 80 && others.len() > 1_200, "{} refused whole, {} not", alone.len(), others.len());
+}
+
+#[test]
+fn generated_inputs_meet_every_case_of_a_delay() {
+    let fates = fates_of_inputs(&SEEDS, INPUTS, Generator::yard);
+    println!("{fates:?}");
+    assert_eq!(fates.seldom(50), [], "{fates:?}");
 }
 
 #[test]

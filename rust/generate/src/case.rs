@@ -1,6 +1,7 @@
 //! A case: a record, a call and the buffers lent to it, and what comes of it.
 
 use reference::cursor::Cursor;
+use reference::recount::{self, Fates};
 use reference::trail::{back, walk, write, WINDOWS};
 use reference::{deliver, load, offer, send, set_up, yard, DeliverAnswer, OfferAnswer, Record, Refusal, SendAnswer};
 
@@ -95,6 +96,19 @@ impl Call {
             Call::Walk { .. } => "walk",
             Call::Step { .. } => "step",
         }
+    }
+
+    /// What becomes of the offers and the delivers of a yard, or of a load under every cap; nothing of another call or
+    /// of an input that is refused whole.
+    pub fn fates(&self) -> Fates {
+        let fates = match self {
+            Call::Yard { input } => yard::run(input).map(|run| recount::yard(&run)),
+            Call::Load { input } => {
+                load::read(input).map(|load| load.caps().map(|cap| recount::load(&load, cap)).sum())
+            }
+            _ => None,
+        };
+        fates.unwrap_or_default()
     }
 }
 

@@ -38,6 +38,12 @@ impl Generator {
         }
     }
 
+    /// So many cases of one call, given by its method, from a seed.
+    pub fn cases(seed: u64, count: usize, next: fn(&mut Generator) -> Case) -> impl Iterator<Item = Case> {
+        let mut generator = Generator::new(seed);
+        (0..count).map(move |_| next(&mut generator))
+    }
+
     /// A state from a list or of any values, at times at the limit of check 5.
     fn state(&mut self, limit: usize) -> State {
         let random = &mut self.random;

@@ -5,6 +5,7 @@ use generate::trails::{fault, Trails};
 use generate::{frames, loads, records, shelves, states, Call, Case, Generator, Outcome};
 use reference::frame::Frame;
 use reference::random::Random;
+use reference::recount::Fates;
 use reference::trail::back;
 use reference::{shelf, Record};
 use std::collections::BTreeMap;
@@ -145,6 +146,14 @@ fn load_lines_are_valid_or_damaged() {
     }
     let damaged = (0..3_000).filter(|_| reference::load(&loads::any_input(&mut random)) == b"R 18\n").count();
     assert!((850..1_150).contains(&damaged), "{damaged} of 3,000 are damaged");
+}
+
+#[test]
+fn yards_and_loads_meet_every_case_of_a_delay() {
+    let yards: Fates = Generator::cases(17, 3_000, Generator::yard).map(|case| case.call.fates()).sum();
+    let loads: Fates = Generator::cases(18, 1_000, Generator::load).map(|case| case.call.fates()).sum();
+    println!("yards {yards:?}\nloads {loads:?}");
+    assert_eq!((yards.seldom(30), loads.seldom(30)), (vec![], vec![]));
 }
 
 #[test]

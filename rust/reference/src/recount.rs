@@ -9,6 +9,7 @@ use crate::xorshift::Xorshift;
 use crate::yard::{self, Run, Step};
 use crate::{DeliverAnswer, OfferAnswer, Record, Refusal};
 use std::collections::BTreeMap;
+use std::iter::Sum;
 
 /// What became of an offer or a deliver; a frame is ready when it is deliverable at the moment of its offer.
 #[derive(Clone, Copy, Debug, PartialEq, Eq, PartialOrd, Ord)]
@@ -75,6 +76,16 @@ impl Fates {
     /// Counts one.
     fn note(&mut self, fate: Fate) {
         *self.0.entry(fate).or_default() += 1;
+    }
+}
+
+/// Those of all runs.
+impl Sum for Fates {
+    fn sum<I: Iterator<Item = Fates>>(runs: I) -> Fates {
+        runs.fold(Fates::default(), |mut all, fates| {
+            all.add(&fates);
+            all
+        })
     }
 }
 
