@@ -51,7 +51,7 @@ fn a_frame_that_waits_for_a_held_one_is_delayed_without_any_none() {
 #[test]
 fn a_delayed_frame_that_is_offered_again_counts_nothing_more() {
     let lines = ["2 2", "S 0 1", "S 0 1", "A 2", "A 2", "A 2", "A 1", "A 2", "D 1", "A 2", "D 1", "A 2"];
-    // Held three times over, once more when it is deliverable at last, and once after its delivery.
+    // Refused three times while it waits, once when it is held and deliverable, and once after its delivery.
     let held = ["S 1 0 1 0", "S 2 0 1 1", "A 2 1", "R 15", "R 15", "A 1 2", "R 15", "D 1 1 2", "R 15"];
     check(&lines, &[&held[..], &["D 1 2 1", "R 14", "T 2 0 2 1 0"]].concat());
 }
