@@ -3,16 +3,19 @@ use Prim.Native.Nat.{_<_, ℕ}
 use mathlib.Core.List.{List, map}
 use native.Mathlib.Omega.{arith}
 use lib.ListN.{length, length-map}
+use Rattle.causality.proofs.Accepted.{accepted-once}
 use Rattle.causality.proofs.Matches.{Matches}
 use Rattle.causality.proofs.Order.{carried, causal, distinct, kept, once}
 use Rattle.causality.proofs.Progress.{accepts, delivers-new, exists, held-agrees}
 use Rattle.causality.proofs.Refusals.{list-refusals}
 use Rattle.causality.proofs.Runs.{run-matches, start-matches}
 use Rattle.causality.proofs.Steps.{forget}
+use Rattle.causality.specs.AcceptedOnce.{AcceptedOnce}
 use Rattle.causality.specs.Demand3.{BodiesOfBytes, Demand3, Demand3For, Earliest, Issue, Step, World, run, start}
 use Rattle.causality.specs.ListRefusals.{ListRefusals}
 use Rattle.causality.specs.EachDestination.{EachDestination, EarliestThere, Progress}
 use Rattle.matrix.specs.Message.{InRange}
+use Rattle.protocol.proofs.Accepting.{run-once, start-once}
 use Rattle.protocol.proofs.Good.{Good}
 use Rattle.protocol.proofs.Runs.{run-good, run-length, start-good}
 use Rattle.protocol.specs.World as messages
@@ -72,6 +75,13 @@ demand3 n cap inside steps bytes short = world-demand3 n cap inside steps bytes 
 pub listRefusals : ListRefusals
 listRefusals n cap inside steps bytes short =
     list-refusals n (w n cap inside steps bytes short) (b n cap inside steps bytes short) (m n cap inside steps bytes short)
+
+-- no frame is accepted twice
+pub acceptedOnce : AcceptedOnce
+acceptedOnce n cap inside steps bytes short =
+    accepted-once n (w n cap inside steps bytes short) (b n cap inside steps bytes short) (m n cap inside steps bytes short)
+    (run-once n (λ i. cap) (messages.start n (λ i. cap)) (l n cap inside steps bytes short) (good-start n cap inside steps bytes short)
+    (start-once n (λ i. cap)))
 
 -- its last part, for each destination
 pub each-destination : EachDestination

@@ -13,5 +13,6 @@ pub mod Reading
 pub mod Order
 pub mod Progress
 pub mod Refusals
+pub mod Accepted
 pub mod Demand3
 pub mod Examples

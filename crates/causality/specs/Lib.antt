@@ -1,4 +1,6 @@
--- To believe, all: demand 3 (over the calls of `node`, whose definitions must be read first), its last part for each destination, and the refusals of a list.
+-- To believe, all: demand 3 (over the calls of `node`, whose definitions must be read first), its last part for each destination, the refusals of a list, and
+-- that no frame is accepted twice.
 pub mod Demand3
 pub mod EachDestination
 pub mod ListRefusals
+pub mod AcceptedOnce

@@ -36,19 +36,19 @@ unfoldable pub countedSend : Counters → ℕ → Counters
 countedSend t x =
     withExtras (record { user = upTo32 (t .user + 1); extras = t .extras; delivered = t .delivered; delays = t .delays; share = t .share }) x
 
--- an accepted offer: nothing is counted; x is 1 where the frame has to wait, 0 otherwise
+-- an accepted offer: x delays more; x is 1 where the frame was not deliverable at that moment, 0 otherwise
 unfoldable pub countedOffer : Counters → ℕ → Counters
-countedOffer t x = t
+countedOffer t x =
+    record { user = t .user; extras = t .extras; delivered = t .delivered; delays = upTo32 (t .delays + x); share = t .share }
 
 -- a delivery: one frame more delivered, of either kind, and x extra frames more issued
 unfoldable pub countedDelivery : Counters → ℕ → Counters
 countedDelivery t x =
     withExtras (record { user = t .user; extras = t .extras; delivered = upTo32 (t .delivered + 1); delays = t .delays; share = t .share }) x
 
--- a deliver that answers none (document 01: an N line): one delay more; x is how many held frames were tried
+-- a deliver that answers none (document 01: an N line): nothing is counted; x is how many held frames were tried
 unfoldable pub countedNothing : Counters → ℕ → Counters
-countedNothing t x =
-    record { user = t .user; extras = t .extras; delivered = t .delivered; delays = upTo32 (t .delays + 1); share = t .share }
+countedNothing t x = t
 
 -- the T numbers: user frames, extras, frames delivered, delays, extras per hundred user frames
 abbrev pub totals : Counters → List ℕ

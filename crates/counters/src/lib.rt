@@ -3,7 +3,7 @@ ghost use mathlib.Core.Path.{_≡_};
 ghost use Prim.Native.Nat.{_+_};
 ghost use Rattle.counters.specs.Counted.{upTo32, share, noCounters, withExtras, countedSend, countedOffer, countedDelivery, countedNothing, totals};
 
-/// User frames, extra frames, frames delivered (of either kind), delays, and extras per hundred user frames.
+/// User frames, extra frames, frames delivered (of either kind), delays (frames accepted without being deliverable), and extras per hundred user frames.
 pub struct Counters {
     pub user: u32,
     pub extras: u32,
@@ -89,11 +89,13 @@ fn with_send(t: Counters, x: u32) -> Counters
     with_extras(sent, x)
 }
 
-// An accepted offer counts nothing: x, which is 1 where the frame has to wait, is not used.
+// With x delays more: 1 for an accepted frame that was not deliverable, 0 for one that was.
 fn with_offer(t: Counters, x: u32) -> Counters
     ensures { λ r. ⌜ r ≡ countedOffer t x ⌝ }
 {
-    t
+    let mut next = t;
+    next.delays = plus(t.delays, x);
+    next
 }
 
 // With one frame more delivered, and its x extra frames.
@@ -105,13 +107,11 @@ fn with_delivery(t: Counters, x: u32) -> Counters
     with_extras(next, x)
 }
 
-// With one delay more, however many held frames (x) were tried.
+// A deliver that answers none counts nothing: x, the held frames that were tried, is not used.
 fn with_nothing(t: Counters, x: u32) -> Counters
     ensures { λ r. ⌜ r ≡ countedNothing t x ⌝ }
 {
-    let mut next = t;
-    next.delays = plus(t.delays, 1);
-    next
+    t
 }
 
 /// Counts a send that issued x extra frames.
@@ -121,7 +121,7 @@ pub fn count_send(t: &mut Counters, x: u32)
     *t = with_send(*t, x);
 }
 
-/// Counts an offer that was accepted; x is 1 where the frame has to wait, 0 otherwise.
+/// Counts an offer that was accepted; x is 1 where the frame was not deliverable, 0 where it was.
 pub fn count_offer(t: &mut Counters, x: u32)
     ensures { λ _. ⌜ now (t .exit) ≡ countedOffer (now (t .entry)) x ⌝ }
 {

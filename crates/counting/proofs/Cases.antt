@@ -3,6 +3,7 @@ use Prim.Native.Nat.{ℕ, zero, suc}
 use mathlib.Core.Bool.{_||_}
 use mathlib.Core.List.{[]}
 use mathlib.Core.Option.{Option, none, some}
+use mathlib.Core.Path.{_≡_, refl}
 use lib.Dec.{leb}
 use lib.ListN.{getElem?}
 use Rattle.wire.proofs.Tests.{cond-elim}
@@ -45,22 +46,23 @@ module _ (w : World) (P : AfterStep → Type 0) (refused : (k : ℕ) → P (refu
       go (sendAnswer.Sent bytes extras) t = sent bytes extras t
 
   pub offer-cases : (m : ℕ)
-      → ((p : ℕ) (g : Issue) (count : ℕ) (ready : _) → OfferTold (w .queues (destination (g .frame))) (offerAnswer.Held count ready) (offerOf w g)
+      → ((p : ℕ) (g : Issue) (count : ℕ) (ready : _) → offerOf w g .result .answer ≡ offerAnswer.Held count ready
+      → OfferTold (w .queues (destination (g .frame))) (offerAnswer.Held count ready) (offerOf w g)
       → P (afterOffered w (destination (g .frame)) p (offerOf w g) (offerAnswer.Held count ready)))
       → P (offerStep w m)
   unfolding offerStep
   offer-cases zero held = refused 17
   offer-cases (suc p) held = to (getElem? (w .log) p)
     where
-      go : (g : Issue) (a : OfferAnswer) → OfferTold (w .queues (destination (g .frame))) a (offerOf w g)
+      go : (g : Issue) (a : OfferAnswer) → offerOf w g .result .answer ≡ a → OfferTold (w .queues (destination (g .frame))) a (offerOf w g)
           → P (afterOffered w (destination (g .frame)) p (offerOf w g) a)
-      go g (offerAnswer.Refused k) t = refused k
-      go g (offerAnswer.Held count ready) t = held p g count ready t
+      go g (offerAnswer.Refused k) e t = refused k
+      go g (offerAnswer.Held count ready) e t = held p g count ready e t
 
       to : (o : Option Issue) → P (offerTo w p o)
       to none = refused 17
       to (some g) =
-          go g (offerOf w g .result .answer) (offer-told (w .records (destination (g .frame))) (g .frame) (w .queues (destination (g .frame))))
+          go g (offerOf w g .result .answer) refl (offer-told (w .records (destination (g .frame))) (g .frame) (w .queues (destination (g .frame))))
 
   pub deliver-cases : (n limit j : ℕ)
       → ((tried : ℕ) → DeliverTold (w .records j) (w .queues j) frameOutput (deliverAnswer.Nothing tried) (deliverOf w j)

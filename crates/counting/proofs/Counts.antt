@@ -33,7 +33,7 @@ module _ (w : World) where
   send-few n limit i j = send-cases w Counts (λ k. tt) n limit i j (λ bytes extras t. omega (arith, t .few))
 
   pub offer-few : (m : ℕ) → Few (offerStep w m .outcome)
-  offer-few m = offer-cases w Counts (λ k. tt) m (λ p g count ready t. tt)
+  offer-few m = offer-cases w Counts (λ k. tt) m (λ p g count ready e t. tt)
 
   pub deliver-few : (n limit j : ℕ) → Few (deliverStep n limit w j .outcome)
   deliver-few n limit j = deliver-cases w Counts (λ k. tt) n limit j (λ tried t. omega (arith, t .0)) (λ d t. omega (arith, t .few))

@@ -2,3 +2,4 @@
 pub mod Cases
 pub mod Counts
 pub mod Lists
+pub mod Kept

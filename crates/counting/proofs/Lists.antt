@@ -1,19 +1,16 @@
--- The start of a simulation, stored and as a list, and that a world that a list leads to is one that demand 3 speaks of. Assumes nothing.
-use Prim.Native.Nat.{ℕ, _*_, _<_}
+-- The start of a simulation, stored and as a list. Assumes nothing.
+use Prim.Native.Nat.{ℕ, _*_}
 use mathlib.Core.List.{List, [], _∷_}
 use mathlib.Core.Path.{_≡_, ap, refl, subst, sym}
 use native.Mathlib.Omega.{arith}
 use lib.ListN.{length, replicate}
-use Rattle.matrix.specs.Message.{InRange}
-use Rattle.causality.proofs.Demand3.{demand3}
-use Rattle.causality.specs.Demand3.{World, Demand3For, start}
+use Rattle.causality.specs.Demand3.{start}
 use Rattle.holdback.specs.Slots.{queueSize, zeros}
 use Rattle.world.proofs.Starts.{Opens, holds-start}
 use Rattle.world.specs.Reached.{Reached}
 use Rattle.world.specs.Start.{maxSimulated}
 use Rattle.world.specs.Stored.{Holds, fresh, logSize}
 use Rattle.world.specs.declared.World.{World as Stored}
-use Rattle.counting.specs.OfList.{OfList}
 
 -- the start in a local array of zeros for the queues, and any log
 pub stored-start : (n c limit : ℕ) → Opens n c → (w : Stored) → w ≡ fresh n (c ∷ c ∷ c ∷ c ∷ []) → (i : ℕ) → i ≡ queueSize * maxSimulated
@@ -25,11 +22,3 @@ stored-start n c limit o w e i a l b =
 -- before the first step
 pub reached-start : (n cap : ℕ) → Reached n cap 0 (start n cap)
 reached-start n cap = record { steps = []; bytes = tt; few = omega arith; same = refl }
-
--- after fewer than 1,000,000,000
-pub of-list : (n cap k : ℕ) (w : World) → InRange n cap → Reached n cap k w → k < 1000000000 → OfList n cap k w
-of-list n cap k w inside r short =
-    record {
-      reached = r;
-      demand3 = subst (Demand3For n cap) (sym (r .same)) (demand3 n cap inside (r .steps) (r .bytes) (omega (arith, r .few)));
-    }

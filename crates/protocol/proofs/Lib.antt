@@ -18,6 +18,7 @@ pub mod Learning
 pub mod Bounds
 pub mod Taking
 pub mod Runs
+pub mod Accepting
 pub mod Liveness
 pub mod Demand3
 pub mod Examples

@@ -1,4 +1,4 @@
--- Document 01's example of the yard, computed by the checker on the definition. Assumes nothing.
+-- Document 01's example of the yard and one of delays, computed by the checker on the definition. Assumes nothing.
 use Prim.Native.Nat.{ℕ}
 use mathlib.Core.List.{List, [], _∷_, _++_}
 use mathlib.Core.Path.{_≡_, refl}
@@ -69,7 +69,44 @@ printed =
     ++ (68 ∷ 32 ∷ 50 ∷ 32 ∷ 51 ∷ 32 ∷ 49 ∷ 10 ∷ [])
     ++ (84 ∷ 32 ∷ 51 ∷ 32 ∷ 48 ∷ 32 ∷ 51 ∷ 32 ∷ 49 ∷ 32 ∷ 48 ∷ 10 ∷ [])
 
-pub example : output input ≡ printed
+-- the same story with more deliveries that answer none: one while nothing is held (N 2 0), and two (N 2 1) that pass over issue 3, which is offered again in
+-- between (R 15)
+abbrev pub waiting : List ℕ
+waiting =
+    (51 ∷ 32 ∷ 51 ∷ 10 ∷ [])
+    ++ (83 ∷ 32 ∷ 48 ∷ 32 ∷ 50 ∷ 10 ∷ [])
+    ++ (83 ∷ 32 ∷ 48 ∷ 32 ∷ 49 ∷ 10 ∷ [])
+    ++ (68 ∷ 32 ∷ 50 ∷ 10 ∷ [])
+    ++ (65 ∷ 32 ∷ 50 ∷ 10 ∷ [])
+    ++ (68 ∷ 32 ∷ 49 ∷ 10 ∷ [])
+    ++ (83 ∷ 32 ∷ 49 ∷ 32 ∷ 50 ∷ 10 ∷ [])
+    ++ (65 ∷ 32 ∷ 51 ∷ 10 ∷ [])
+    ++ (68 ∷ 32 ∷ 50 ∷ 10 ∷ [])
+    ++ (65 ∷ 32 ∷ 51 ∷ 10 ∷ [])
+    ++ (68 ∷ 32 ∷ 50 ∷ 10 ∷ [])
+    ++ (65 ∷ 32 ∷ 49 ∷ 10 ∷ [])
+    ++ (68 ∷ 32 ∷ 50 ∷ 10 ∷ [])
+    ++ (68 ∷ 32 ∷ 50 ∷ 10 ∷ [])
+
+-- one delay, that of issue 3, which was not deliverable when it was accepted; issues 2 and 1 were
+abbrev pub waited : List ℕ
+waited =
+    (83 ∷ 32 ∷ 49 ∷ 32 ∷ 48 ∷ 32 ∷ 50 ∷ 32 ∷ 48 ∷ 10 ∷ [])
+    ++ (83 ∷ 32 ∷ 50 ∷ 32 ∷ 48 ∷ 32 ∷ 49 ∷ 32 ∷ 49 ∷ 10 ∷ [])
+    ++ (78 ∷ 32 ∷ 50 ∷ 32 ∷ 48 ∷ 10 ∷ [])
+    ++ (65 ∷ 32 ∷ 50 ∷ 32 ∷ 49 ∷ 10 ∷ [])
+    ++ (68 ∷ 32 ∷ 49 ∷ 32 ∷ 50 ∷ 32 ∷ 49 ∷ 10 ∷ [])
+    ++ (83 ∷ 32 ∷ 51 ∷ 32 ∷ 49 ∷ 32 ∷ 50 ∷ 32 ∷ 49 ∷ 10 ∷ [])
+    ++ (65 ∷ 32 ∷ 51 ∷ 32 ∷ 49 ∷ 10 ∷ [])
+    ++ (78 ∷ 32 ∷ 50 ∷ 32 ∷ 49 ∷ 10 ∷ [])
+    ++ (82 ∷ 32 ∷ 49 ∷ 53 ∷ 10 ∷ [])
+    ++ (78 ∷ 32 ∷ 50 ∷ 32 ∷ 49 ∷ 10 ∷ [])
+    ++ (65 ∷ 32 ∷ 49 ∷ 32 ∷ 50 ∷ 10 ∷ [])
+    ++ (68 ∷ 32 ∷ 50 ∷ 32 ∷ 49 ∷ 32 ∷ 50 ∷ 10 ∷ [])
+    ++ (68 ∷ 32 ∷ 50 ∷ 32 ∷ 51 ∷ 32 ∷ 49 ∷ 10 ∷ [])
+    ++ (84 ∷ 32 ∷ 51 ∷ 32 ∷ 48 ∷ 32 ∷ 51 ∷ 32 ∷ 49 ∷ 32 ∷ 48 ∷ 10 ∷ [])
+
+pub examples : (output input ≡ printed) × (output waiting ≡ waited)
 unfolding setUp inRange cutFor sendCall offerCall deliverCall brokenRecord brokenRules zeroDiagonal zeroColumn withinLimit zeroFrom count columnCount flat entry
     atLimit protocolSend.send protocolOffer.offer protocolDeliver.deliver deliverable trimFor fullest clear only merge framesOf encode sealed front headerBytes
     headerOf header ownLength entriesBytes entryBytes entriesOf listed placed entriesFrom entryAt matrixOf le16 le32 u16At u32At bytes.put trailer
@@ -79,4 +116,4 @@ unfolding setUp inRange cutFor sendCall offerCall deliverCall brokenRecord broke
     commands.letter commands.withOne commands.withTwo commands.ofPieces commands.command firstLine.sizes firstLine.ofPieces firstLine.firstLine row lineEnd
     spaced
     decimal digits value continued isDigit split grown output ofLines started lines line printedBy countedBy headerRow issueRows
-example = refl
+examples = (refl, refl)

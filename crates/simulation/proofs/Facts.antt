@@ -36,7 +36,7 @@ module _ (w : World) where
 
   pub offer-facts : (m : ℕ) → m < 1000 → StepFacts m w (offerStep w m)
   offer-facts m h =
-      offer-cases w (StepFacts m w) (refused-facts m) m (λ p g count ready t. record { small = (h, omega (arith, t)); grown = (_, refl) })
+      offer-cases w (StepFacts m w) (refused-facts m) m (λ p g count ready e t. record { small = (h, omega (arith, t)); grown = (_, refl) })
 
   pub deliver-facts : (n limit j : ℕ) → length (w .log) < 99 → j < 1000 → StepFacts j w (deliverStep n limit w j)
   deliver-facts n limit j l h =

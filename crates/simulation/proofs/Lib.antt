@@ -7,4 +7,5 @@ pub mod Concluding
 pub mod Lines
 pub mod Runs
 pub mod EveryYard
+pub mod EveryOutput
 pub mod Example

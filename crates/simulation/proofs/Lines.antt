@@ -30,13 +30,13 @@ use Rattle.simulation.specs.Yard.{AfterLine, line, lines, maxIssues, tot
 use Rattle.simulation.specs.declared.Taken.{Taken}
 
 -- a line and those behind it, and what stands behind the last line feed
-lines-more : (n : ℕ) (z : State) (t : List ℕ) (ps : List (List ℕ)) → 1 ≤ length ps
+pub lines-more : (n : ℕ) (z : State) (t : List ℕ) (ps : List (List ℕ)) → 1 ≤ length ps
     → lines n z (t ∷ ps) ≡ line n z (command t) .printed ++ lines n (line n z (command t) .yard) ps
 unfolding lines
 lines-more n z t [] h = absurd (omega arith)
 lines-more n z t (p ∷ ps) h = refl
 
-lines-last : (n : ℕ) (z : State) (t : List ℕ) → lines n z (t ∷ []) ≡ cond (eqb (length t) 0) [] (refusalRow 17) ++ totalRow (z .counters)
+pub lines-last : (n : ℕ) (z : State) (t : List ℕ) → lines n z (t ∷ []) ≡ cond (eqb (length t) 0) [] (refusalRow 17) ++ totalRow (z .counters)
 unfolding lines
 lines-last n z t = refl
 

@@ -38,17 +38,17 @@ pub started-no : (n c : ℕ) (ls : List (List ℕ)) → startable n (c ∷ c ∷
 unfolding started
 started-no n c ls e = rw e
 
-started-other : (ls : List (List ℕ)) → started first.Other ls ≡ alone
+pub started-other : (ls : List (List ℕ)) → started first.Other ls ≡ alone
 unfolding started
 started-other ls = refl
 
 -- an input that is too long, one without a line feed, and one with a first line
-lines-first : (l : List ℕ) (ps : List (List ℕ)) → 1 ≤ length ps → ofLines (l ∷ ps) ≡ started (firstLine l) ps
+pub lines-first : (l : List ℕ) (ps : List (List ℕ)) → 1 ≤ length ps → ofLines (l ∷ ps) ≡ started (firstLine l) ps
 unfolding ofLines
 lines-first l [] h = absurd (omega arith)
 lines-first l (p ∷ ps) h = refl
 
-lines-alone : (l : List ℕ) → ofLines (l ∷ []) ≡ alone
+pub lines-alone : (l : List ℕ) → ofLines (l ∷ []) ≡ alone
 unfolding ofLines
 lines-alone l = refl
 
@@ -57,16 +57,18 @@ module _ (s : List ℕ) where
   unfolding output
   output-long h = rw (lt-ltb maxInput (length s) h)
 
+  pub output-lines : length s ≤ maxInput → output s ≡ ofLines (split 10 s)
+  unfolding output
+  output-lines h = rw (le-ltb maxInput (length s) h)
+
   module _ (h : length s ≤ maxInput) (end : ℕ) (e : end ≡ 0 + before 10 (drop 0 s)) where
     pub output-none : end ≡ length s → output s ≡ alone
-    unfolding output
-    output-none z = rw (le-ltb maxInput (length s) h) (ap ofLines (split-none 10 s 0 end e z (omega arith)) ∙ lines-alone s)
+    output-none z = output-lines h ∙ ap ofLines (split-none 10 s 0 end e z (omega arith)) ∙ lines-alone s
 
     pub output-first : end < length s → (f : FirstLine) → firstLine (take end s) ≡ f → output s ≡ started f (split 10 (drop (end + 1) s))
-    unfolding output
     output-first l f g =
-        rw (le-ltb maxInput (length s) h)
-        (ap ofLines (split-found 10 s 0 end e l) ∙ lines-first (take (end - 0) s) (split 10 (drop (end + 1) s)) (split-some 10 (drop (end + 1) s))
+        output-lines h
+        ∙ (ap ofLines (split-found 10 s 0 end e l) ∙ lines-first (take (end - 0) s) (split 10 (drop (end + 1) s)) (split-some 10 (drop (end + 1) s))
         ∙ ap (λ (k : ℕ). started (firstLine (take k s)) (split 10 (drop (end + 1) s))) (sub-zero end)
         ∙ ap (λ (x : FirstLine). started x (split 10 (drop (end + 1) s))) g)
 

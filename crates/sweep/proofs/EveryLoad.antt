@@ -9,38 +9,34 @@ use Rattle.draws.specs.Draws.{stepOf}
 use Rattle.draws.specs.declared.Draw.{Draw}
 use Rattle.draws.specs.declared.Draw.the-variants as draw
 use Rattle.xorshift.specs.Xorshift.{next}
-use Rattle.world.proofs.Reach.{reached-later}
-use Rattle.world.proofs.Simulated.{deliver-reached, offer-reached, send-reached}
-use Rattle.world.specs.Reached.{Reached}
-use Rattle.counting.proofs.Lists.{of-list, reached-start}
+use Rattle.counting.proofs.Kept.{Kept, deliver-kept, kept-start, later-kept, of-list, offer-kept, send-kept}
 use Rattle.counting.specs.State.{State, opened}
 use Rattle.sweep.specs.EveryLoad.{EveryLoad}
 use Rattle.sweep.specs.Load.{afterDraw, afterDraws, made, maxIssues, runOf}
 
 module _ (n cap : ℕ) (inside : InRange n cap) where
   -- a draw
-  made-reached : (k : ℕ) (y : State) → Reached n cap k (y .world) → k < 1000000000 → (d : Draw) → Reached n cap (k + 1) (made n y d .world)
+  made-kept : (k : ℕ) (y : State) → Kept n cap k y → k < 1000000000 → (d : Draw) → Kept n cap (k + 1) (made n y d)
   unfolding made
-  made-reached k y r h (draw.Send i j) = send-reached n cap maxIssues k (y .world) r i j
-  made-reached k y r h (draw.Offer m) = offer-reached n cap maxIssues k (y .world) r inside h m
-  made-reached k y r h (draw.Deliver j) = deliver-reached n cap maxIssues k (y .world) r j
-  made-reached k y r h draw.Nothing = reached-later n cap k (y .world) r
+  made-kept k y r h (draw.Send i j) = send-kept n cap k y r maxIssues i j
+  made-kept k y r h (draw.Offer m) = offer-kept n cap k y r maxIssues inside h m
+  made-kept k y r h (draw.Deliver j) = deliver-kept n cap k y r maxIssues j
+  made-kept k y r h draw.Nothing = later-kept n cap k y r
 
   -- and all behind it
-  draws-reached : (k : ℕ) (y : State) (x draws : ℕ) → Reached n cap k (y .world) → k + draws < 1000000000
-      → Reached n cap (k + draws) (afterDraws n y x draws .world)
+  draws-kept : (k : ℕ) (y : State) (x draws : ℕ) → Kept n cap k y → k + draws < 1000000000 → Kept n cap (k + draws) (afterDraws n y x draws)
   unfolding afterDraws
-  draws-reached k y x zero r h = subst (λ (i : ℕ). Reached n cap i (y .world)) (sym (add-zero k)) r
-  draws-reached k y x (suc draws) r h =
+  draws-kept k y x zero r h = subst (λ (i : ℕ). Kept n cap i y) (sym (add-zero k)) r
+  draws-kept k y x (suc draws) r h =
       let z : State = afterDraw n y (next x) in
       let e : k + 1 + draws ≡ k + suc draws = omega arith in
-      subst (λ (i : ℕ). Reached n cap i (afterDraws n z (next x) draws .world)) e
-      (draws-reached (k + 1) z (next x) draws (made-reached k y r (omega arith) (stepOf n (length (y .world .log)) (next x))) (omega arith))
+      subst (λ (i : ℕ). Kept n cap i (afterDraws n z (next x) draws)) e
+      (draws-kept (k + 1) z (next x) draws (made-kept k y r (omega arith) (stepOf n (length (y .world .log)) (next x))) (omega arith))
 
 pub everyLoad : EveryLoad
 everyLoad n cap seed draws two four from to short =
     let inside : InRange n cap = record { atLeast2 = two; atMost12 = omega arith; capFrom = from; capTo = to } in
-    let r : Reached n cap draws (runOf n cap seed draws .world)
-    = subst (λ (i : ℕ). Reached n cap i (runOf n cap seed draws .world)) (zero-add draws)
-    (draws-reached n cap inside 0 (opened n cap) seed draws (reached-start n cap) (omega arith)) in
-    of-list n cap draws (runOf n cap seed draws .world) inside r short
+    let z : State = runOf n cap seed draws in
+    let r : Kept n cap draws z
+    = subst (λ (i : ℕ). Kept n cap i z) (zero-add draws) (draws-kept n cap inside 0 (opened n cap) seed draws (kept-start n cap) (omega arith)) in
+    of-list n cap draws z inside r short

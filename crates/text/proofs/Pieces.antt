@@ -146,3 +146,12 @@ split-total c (b ∷ s) =
     let more = split-total c s in
     cond-elim (λ (ps : List (List ℕ)). total ps ≡ suc (length s) + 1) (eqb b c) ([] ∷ split c s) (grown b (split c s)) (λ t. omega arith)
     (λ t. omega (arith, total-grown b (split c s) (split-some c s)))
+
+-- so there are at most as many pieces
+length-total : (ps : List (List ℕ)) → length ps ≤ total ps
+unfolding total
+length-total [] = omega arith
+length-total (p ∷ ps) = omega (arith, length-total ps)
+
+pub split-few : (c : ℕ) (s : List ℕ) → length (split c s) ≤ length s + 1
+split-few c s = omega (arith, split-total c s, length-total (split c s))

@@ -1,0 +1,18 @@
+-- Delays (document 02, (v)), read off the history of a list: a frame is delayed when an offer accepts it without its being deliverable at that moment.
+use Prim.Native.Nat.{ℕ, _+_}
+use mathlib.Core.List.{List, [], _∷_}
+use Rattle.node.specs.declared.OfferAnswer.the-variants as offer
+use Rattle.causality.specs.Demand3.{Answer, Event, delivered, offered, sent}
+use Rattle.counting.specs.State.{waits}
+
+-- 1 for the answer of an offer that was accepted and says that the frame is not deliverable
+abbrev pub delay : Answer → ℕ
+delay (sent a) = 0
+delay (offered (offer.Refused k)) = 0
+delay (offered (offer.Held count ready)) = waits ready
+delay (delivered a) = 0
+
+-- how many such answers a history has
+abbrev pub delays : List Event → ℕ
+delays [] = 0
+delays (e ∷ l) = delay (e .answer) + delays l

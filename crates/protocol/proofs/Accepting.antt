@@ -1,0 +1,132 @@
+-- No message is accepted twice: what an accepted offer took is delivered or held, so that another offer of it meets 14 or 15. Assumes nothing.
+use Prim.Native.Nat.{ℕ, _<_}
+use mathlib.Core.Bool.{true, false, cond, not}
+use mathlib.Core.List.{List, [], _∷_, _++_}
+use mathlib.Core.Logic.{_⊎_, inl, inr}
+use mathlib.Core.Option.{Option, none, some}
+use mathlib.Core.Path.{_≡_, _∙_, ap, refl, subst, sym}
+use native.Mathlib.Omega.{arith}
+use lib.Dec.{T, eqb, eqb→eq, leb, ltb, ltb→lt, nleb→lt}
+use lib.ListN.{getElem?, length}
+use Rattle.matrix.specs.Message.{Message, number}
+use Rattle.protocol.proofs.Good.{Good, Kept}
+use Rattle.protocol.proofs.Lists.{Snoc, at-none, at-snoc}
+use Rattle.protocol.proofs.Origins.{other-origin}
+use Rattle.protocol.proofs.Runs.{step-good}
+use Rattle.protocol.specs.Answer.{Outcome, accepted, refuse}
+use Rattle.protocol.specs.Deliver.{deliver}
+use Rattle.protocol.specs.Node.{Node}
+use Rattle.protocol.specs.Offer.{claimsTooMuch, deliveredBefore, heldAlready, holding, noRoom, notForMe, offer}
+use Rattle.protocol.specs.Send.{send}
+use Rattle.protocol.specs.World.{Event, Issue, IssueAt, Step, World, afterStep, delivers, offerAt, offers, run, sends, start, step}
+use Rattle.wire.proofs.Tests.{cond-elim, not-not}
+
+-- an accepted offer of issue p
+pub record Accepts (e : Event) (p : ℕ) : Type 0 where
+  pub node : ℕ
+  pub offered : e .step ≡ offers node p
+  pub accepted : accepted (e .answer) ≡ true
+
+-- no two places of a history have accepted offers of one issue
+abbrev pub AcceptedOnce : List Event → Type 0
+AcceptedOnce h = (t u p : ℕ) (e f : Event) → getElem? h t ≡ some e → getElem? h u ≡ some f → Accepts e p → Accepts f p → t ≡ u
+
+-- one event more
+once-snoc : (h : List Event) (b : Event) → AcceptedOnce h → ((t p : ℕ) (e : Event) → getElem? h t ≡ some e → Accepts e p → Accepts b p → ⊥)
+    → AcceptedOnce (h ++ (b ∷ []))
+once-snoc h b once new t u p e f x y k l = go (at-snoc h b t e x) (at-snoc h b u f y)
+  where
+    go : Snoc h b t e → Snoc h b u f → t ≡ u
+    go (inl a) (inl c) = once t u p e f a c k l
+    go (inl a) (inr c) = absurd (new t p e a k (subst (λ (z : Event). Accepts z p) (c .1) l))
+    go (inr a) (inl c) = absurd (new u p f c l (subst (λ (z : Event). Accepts z p) (a .1) k))
+    go (inr a) (inr c) = a .0 ∙ sym (c .0)
+
+-- an offer that is accepted met none of 12, 14 and 15
+module _ (d : Node) (m : Message) (Q : Type 0)
+    (free : T (not (notForMe d m)) → T (not (deliveredBefore d m)) → T (not (heldAlready d m)) → Q) where
+  abbrev Free : Outcome → Type 0
+  Free r = accepted (r .answer) ≡ true → Q
+
+  refused-free : (k : ℕ) → Free (refuse k d)
+  refused-free k z = let y : _≡_ {A = ℕ} 0 1 = cc in absurd (omega arith)
+
+  accepted-free : accepted (offer d m .answer) ≡ true → Q
+  unfolding offer
+  accepted-free =
+      cond-elim Free (notForMe d m) (refuse 12 d) t₂ (λ _. refused-free 12)
+      (λ a. cond-elim Free (claimsTooMuch d m) (refuse 13 d) t₃ (λ _. refused-free 13)
+      (λ _. cond-elim Free (deliveredBefore d m) (refuse 14 d) t₄ (λ _. refused-free 14)
+      (λ b. cond-elim Free (heldAlready d m) (refuse 15 d) t₅ (λ _. refused-free 15) (λ c z. free a b c))))
+    where
+      t₅ : Outcome
+      t₅ = cond (noRoom d m) (refuse 16 d) (holding d m)
+
+      t₄ : Outcome
+      t₄ = cond (heldAlready d m) (refuse 15 d) t₅
+
+      t₃ : Outcome
+      t₃ = cond (deliveredBefore d m) (refuse 14 d) t₄
+
+      t₂ : Outcome
+      t₂ = cond (claimsTooMuch d m) (refuse 13 d) t₃
+
+module _ (n : ℕ) (caps : ℕ → ℕ) (w : World) (g : Good n caps w) (once : AcceptedOnce (w .history)) where
+  -- of issue p, which is l, at node i
+  module _ (i : ℕ) (hi : i < n) (p : ℕ) (l : Issue) (at : IssueAt w p l) where
+    abbrev d : Node
+    d = w .nodes i
+
+    -- what was taken before is not taken again
+    again : Kept (w .nodes (l .message .to)) (l .message) → accepted (offer d (l .message) .answer) ≡ true → ⊥
+    again k = accepted-free d (l .message) ⊥ (λ a b c. go a b c k)
+      where
+        go : T (not (notForMe d (l .message))) → T (not (deliveredBefore d (l .message))) → T (not (heldAlready d (l .message)))
+            → Kept (w .nodes (l .message .to)) (l .message) → ⊥
+        go a b c k =
+            let here : l .message .to ≡ i = eqb→eq (l .message .to) (d .me) (not-not (eqb (l .message .to) (d .me)) a) ∙ g .node i hi .me in
+            taken b c (subst (λ (z : ℕ). Kept (w .nodes z) (l .message)) here k)
+          where
+            taken : T (not (deliveredBefore d (l .message))) → T (not (heldAlready d (l .message))) → Kept d (l .message) → ⊥
+            taken b c (inl h) = omega (arith, nleb→lt (number (l .message)) (d .deliv (l .message .from)) b)
+            taken b c (inr h) = other-origin (d .held) (l .message) c (h .0) (l .message) (h .1) refl refl
+
+    offer-once : AcceptedOnce (afterStep w i (offers i p) (offer d (l .message)) .history)
+    offer-once = once-snoc (w .history) _ once new
+      where
+        new : (t q : ℕ) (e : Event) → getElem? (w .history) t ≡ some e → Accepts e q
+            → Accepts (record { node = i; step = offers i p; answer = offer d (l .message) .answer }) q → ⊥
+        new t q e a k b =
+            let z : p ≡ q = let z′ = b .offered in cc in
+            let x = g .taken t (k .node) q e a (k .offered) (k .accepted) in
+            let y : x .0 ≡ l = let y′ : some (x .0) ≡ some l = sym (x .1) ∙ ap (getElem? (w .log)) (sym z) ∙ at in cc in
+            again (subst (λ (f : Issue). Kept (w .nodes (f .message .to)) (f .message)) y (x .2)) (b .accepted)
+
+  -- a step that is no offer
+  other-once : (i : ℕ) (s : Step) (r : Outcome) → ((j p : ℕ) → s ≡ offers j p → ⊥) → AcceptedOnce (afterStep w i s r .history)
+  other-once i s r h = once-snoc (w .history) _ once (λ t p e a k b. h (b .node) p (b .offered))
+
+  step-once : (s : Step) → AcceptedOnce (step n w s .history)
+  unfolding step
+  step-once (sends i to body) =
+      cond-elim (λ (z : World). AcceptedOnce (z .history)) (ltb i n) (afterStep w i (sends i to body) (send (w .nodes i) to body)) w
+      (λ _. other-once i (sends i to body) (send (w .nodes i) to body) (λ j p z. let y : _≡_ {A = ℕ} 0 1 = cc in omega arith)) (λ _. once)
+  step-once (offers i p) =
+      cond-elim (λ (z : World). AcceptedOnce (z .history)) (ltb i n) (offerAt w i p (getElem? (w .log) p)) w
+      (λ t. go (ltb→lt i n t) (getElem? (w .log) p) refl) (λ _. once)
+    where
+      go : i < n → (o : Option Issue) → getElem? (w .log) p ≡ o → AcceptedOnce (offerAt w i p o .history)
+      go hi none e = once
+      go hi (some l) e = offer-once i hi p l e
+  step-once (delivers i) =
+      cond-elim (λ (z : World). AcceptedOnce (z .history)) (ltb i n) (afterStep w i (delivers i) (deliver (w .nodes i))) w
+      (λ _. other-once i (delivers i) (deliver (w .nodes i)) (λ j p z. let y : _≡_ {A = ℕ} 0 1 = cc in omega arith)) (λ _. once)
+
+-- a list of steps
+pub run-once : (n : ℕ) (caps : ℕ → ℕ) (w : World) (l : List Step) → Good n caps w → AcceptedOnce (w .history) → AcceptedOnce (run n w l .history)
+run-once n caps w [] g once = once
+run-once n caps w (s ∷ l) g once = run-once n caps (step n w s) l (step-good n caps w s g) (step-once n caps w g once s)
+
+-- from fresh nodes
+pub start-once : (n : ℕ) (caps : ℕ → ℕ) → AcceptedOnce (start n caps .history)
+start-once n caps t u p e f a = absurd (at-none t e a)
