@@ -1,6 +1,5 @@
 -- No frame is accepted twice: what two matched histories say of an accepted offer. Assumes nothing.
 use Prim.Native.Nat.{ℕ}
-use mathlib.Core.List.{List}
 use mathlib.Core.Path.{_∙_, sym}
 use Rattle.causality.proofs.Matches.{Matches, SameEvent, same-back}
 use Rattle.causality.specs.AcceptedOnce.{AcceptedOnceFor, Accepts}

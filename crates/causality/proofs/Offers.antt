@@ -26,8 +26,9 @@ use Rattle.protocol.proofs.Bounds.{claims-little}
 use Rattle.protocol.proofs.Good.{Good}
 use Rattle.protocol.proofs.Grown.{nodeAt}
 use Rattle.protocol.proofs.Lists.{at-none}
-use Rattle.protocol.specs.Offer.{claimsTooMuch, deliveredBefore, heldAlready, holding, noRoom, notForMe, offer}
-use Rattle.wire.proofs.Tests.{cond-elim, cond-no, eq→eqb, is-false, T-not-not}
+use Rattle.protocol.proofs.Offering.{offer-cases}
+use Rattle.protocol.specs.Offer.{claimsTooMuch, holding, offer}
+use Rattle.wire.proofs.Tests.{cond-no, eq→eqb, is-false, T-not-not}
 use Rattle.protocol.specs.World as messages
 use Rattle.protocol.specs.Answer as protocol
 use Rattle.protocol.specs.Node.{Node as MessageNode}
@@ -41,29 +42,10 @@ data Case (d : MessageNode) (m : Message) : Type 0 where
 
 -- one that claims no more than stands in row me
 case : (d : MessageNode) (m : Message) → T (not (claimsTooMuch d m)) → Case d m
-unfolding offer
 case d m c =
-    cond-elim P (notForMe d m) (protocol.refuse 12 d) t₂ (λ _ e. refuses 12 tt (inr (inl refl)) e)
-    (λ _. cond-elim P (claimsTooMuch d m) (protocol.refuse 13 d) t₃ (λ t _. absurd (T-not (claimsTooMuch d m) c t))
-    (λ _. cond-elim P (deliveredBefore d m) (protocol.refuse 14 d) t₄ (λ _ e. refuses 14 tt (inr (inr (inl refl))) e)
-    (λ _. cond-elim P (heldAlready d m) (protocol.refuse 15 d) t₅ (λ _ e. refuses 15 tt (inr (inr (inr (inl refl)))) e)
-    (λ _. cond-elim P (noRoom d m) (protocol.refuse 16 d) (holding d m) (λ _ e. refuses 16 tt (inr (inr (inr (inr (inl refl))))) e) (λ _ e. accepts e)))))
-    refl
-  where
-    P : protocol.Outcome → Type 0
-    P o = offer d m ≡ o → Case d m
-
-    t₅ : protocol.Outcome
-    t₅ = cond (noRoom d m) (protocol.refuse 16 d) (holding d m)
-
-    t₄ : protocol.Outcome
-    t₄ = cond (heldAlready d m) (protocol.refuse 15 d) t₅
-
-    t₃ : protocol.Outcome
-    t₃ = cond (deliveredBefore d m) (protocol.refuse 14 d) t₄
-
-    t₂ : protocol.Outcome
-    t₂ = cond (claimsTooMuch d m) (protocol.refuse 13 d) t₃
+    offer-cases d m (λ (o : protocol.Outcome). offer d m ≡ o → Case d m) (λ _ e. refuses 12 tt (inr (inl refl)) e)
+    (λ t _. absurd (T-not (claimsTooMuch d m) c t)) (λ _ e. refuses 14 tt (inr (inr (inl refl))) e) (λ _ e. refuses 15 tt (inr (inr (inr (inl refl)))) e)
+    (λ _ e. refuses 16 tt (inr (inr (inr (inr (inl refl))))) e) (λ _ _ _ _ e. accepts e) refl
 
 module _ (n cap : ℕ) (w : messages.World) (g : Good n (λ i. cap) w) (few : length (w .history) < 1000000000) (bodies : Bodies w) (i : ℕ) (hi : i < n) where
   -- the node

@@ -10,7 +10,7 @@ use Rattle.node.specs.declared.OfferAnswer.{OfferAnswer}
 use Rattle.causality.proofs.Demand3.{acceptedOnce, demand3}
 use Rattle.causality.specs.AcceptedOnce.{AcceptedOnceFor}
 use Rattle.causality.specs.Demand3.{Demand3For, Event, World, offered}
-use Rattle.counters.specs.Counted.{countedDelivery, countedNothing, countedOffer, countedSend, noCounters, upTo32, withExtras}
+use Rattle.counters.proofs.Delays.{delays-delivery, delays-nothing, delays-offer, delays-send, delays-start}
 use Rattle.counters.specs.declared.Counters.{Counters}
 use Rattle.world.proofs.Reach.{reached-later}
 use Rattle.world.proofs.Simulated.{deliver-reached, offer-reached, send-reached}
@@ -34,78 +34,78 @@ waits-most true = omega arith
 waits-most false = omega arith
 
 -- the counters t have counted the delays of a history, of which there are at most k
-pub record Counted (k : ℕ) (t : Counters) (l : List Event) : Type 0 where
+pub record Tallied (k : ℕ) (t : Counters) (l : List Event) : Type 0 where
   pub same : t .delays ≡ delays l
   pub few : delays l ≤ k
 
-module _ (k : ℕ) (t : Counters) (w : World) (h : Counted k t (w .history)) where
+module _ (k : ℕ) (t : Counters) (w : World) (h : Tallied k t (w .history)) where
   -- what a step leaves
   abbrev Step : AfterStep → Type 0
-  Step a = Counted (k + 1) (countedBy t (a .outcome)) (a .world .history)
+  Step a = Tallied (k + 1) (countedBy t (a .outcome)) (a .world .history)
 
-  refused-counted : (x : ℕ) → Step (refuse x w)
+  refused-tallied : (x : ℕ) → Step (refuse x w)
   unfolding countedBy
-  refused-counted x = record { same = h .same; few = omega (arith, h .few) }
+  refused-tallied x = record { same = h .same; few = omega (arith, h .few) }
 
   -- an event that adds x delays, and counters that have so many more
-  event-counted : (e : Event) (x : ℕ) → delay (e .answer) ≡ x → x ≤ 1 → (u : Counters) → u .delays ≡ t .delays + x → Counted (k + 1) u (w .history ++ (e ∷ []))
-  event-counted e x d one u c =
+  event-tallied : (e : Event) (x : ℕ) → delay (e .answer) ≡ x → x ≤ 1 → (u : Counters) → u .delays ≡ t .delays + x → Tallied (k + 1) u (w .history ++ (e ∷ []))
+  event-tallied e x d one u c =
       record { same = omega (arith, delays-more (w .history) e, h .same); few = omega (arith, delays-more (w .history) e, h .few) }
 
-  send-counted : (n limit i j : ℕ) → Step (sendStep n limit w i j)
-  unfolding countedBy countedSend withExtras
-  send-counted n limit i j = send-cases w Step refused-counted n limit i j (λ bytes extras told. event-counted _ 0 refl (omega arith) _ (omega arith))
+  send-tallied : (n limit i j : ℕ) → Step (sendStep n limit w i j)
+  unfolding countedBy
+  send-tallied n limit i j =
+      send-cases w Step refused-tallied n limit i j (λ bytes extras told. event-tallied _ 0 refl (omega arith) _ (omega (arith, delays-send t extras)))
 
-  offer-counted : k < 1000000000 → (m : ℕ) → Step (offerStep w m)
-  unfolding countedBy countedOffer upTo32
-  offer-counted short m =
-      offer-cases w Step refused-counted m
-      (λ p g count ready e told. event-counted _ (waits ready) (ap (λ (a : OfferAnswer). delay (offered a)) e) (waits-most ready) _
-      (omega (arith, h .same, h .few, waits-most ready)))
+  offer-tallied : k < 1000000000 → (m : ℕ) → Step (offerStep w m)
+  unfolding countedBy
+  offer-tallied short m =
+      offer-cases w Step refused-tallied m
+      (λ p g count ready e told. event-tallied _ (waits ready) (ap (λ (a : OfferAnswer). delay (offered a)) e) (waits-most ready) _
+      (delays-offer t (waits ready) (omega (arith, h .same, h .few, waits-most ready))))
 
-  deliver-counted : (n limit j : ℕ) → Step (deliverStep n limit w j)
-  unfolding countedBy countedNothing countedDelivery withExtras
-  deliver-counted n limit j =
-      deliver-cases w Step refused-counted n limit j (λ tried told. event-counted _ 0 refl (omega arith) _ (omega arith))
-      (λ d told. event-counted _ 0 refl (omega arith) _ (omega arith))
+  deliver-tallied : (n limit j : ℕ) → Step (deliverStep n limit w j)
+  unfolding countedBy
+  deliver-tallied n limit j =
+      deliver-cases w Step refused-tallied n limit j (λ tried told. event-tallied _ 0 refl (omega arith) _ (omega (arith, delays-nothing t tried)))
+      (λ d told. event-tallied _ 0 refl (omega arith) _ (omega (arith, delays-delivery t (d .extras))))
 
 -- ---- the list and the delays
 
 -- the state z after k steps
 pub record Kept (n cap k : ℕ) (z : State) : Type 0 where
   pub reached : Reached n cap k (z .world)
-  pub counted : Counted k (z .counters) (z .world .history)
+  pub tallied : Tallied k (z .counters) (z .world .history)
 
 -- before the first step
 pub kept-start : (n cap : ℕ) → Kept n cap 0 (opened n cap)
-unfolding noCounters
-kept-start n cap = record { reached = reached-start n cap; counted = record { same = refl; few = omega arith } }
+kept-start n cap = record { reached = reached-start n cap; tallied = record { same = delays-start; few = omega arith } }
 
 module _ (n cap k : ℕ) (z : State) (r : Kept n cap k z) where
   -- where nothing is done
   pub later-kept : Kept n cap (k + 1) z
   later-kept = record {
     reached = reached-later n cap k (z .world) (r .reached);
-    counted = record { same = r .counted .same; few = omega (arith, r .counted .few) };
+    tallied = record { same = r .tallied .same; few = omega (arith, r .tallied .few) };
   }
 
   module _ (limit : ℕ) where
     pub send-kept : (i j : ℕ) → Kept n cap (k + 1) (stateAfter (z .counters) (sendStep n limit (z .world) i j))
     send-kept i j = record {
       reached = send-reached n cap limit k (z .world) (r .reached) i j;
-      counted = send-counted k (z .counters) (z .world) (r .counted) n limit i j;
+      tallied = send-tallied k (z .counters) (z .world) (r .tallied) n limit i j;
     }
 
     pub offer-kept : InRange n cap → k < 1000000000 → (m : ℕ) → Kept n cap (k + 1) (stateAfter (z .counters) (offerStep (z .world) m))
     offer-kept inside short m = record {
       reached = offer-reached n cap limit k (z .world) (r .reached) inside short m;
-      counted = offer-counted k (z .counters) (z .world) (r .counted) short m;
+      tallied = offer-tallied k (z .counters) (z .world) (r .tallied) short m;
     }
 
     pub deliver-kept : (j : ℕ) → Kept n cap (k + 1) (stateAfter (z .counters) (deliverStep n limit (z .world) j))
     deliver-kept j = record {
       reached = deliver-reached n cap limit k (z .world) (r .reached) j;
-      counted = deliver-counted k (z .counters) (z .world) (r .counted) n limit j;
+      tallied = deliver-tallied k (z .counters) (z .world) (r .tallied) n limit j;
     }
 
 -- after fewer than 1,000,000,000
@@ -115,6 +115,6 @@ of-list n cap k z inside r short =
     record {
       reached = list;
       demand3 = subst (Demand3For n cap) (sym (list .same)) (demand3 n cap inside (list .steps) (list .bytes) (omega (arith, list .few)));
-      delays = ap some (r .counted .same);
+      delays = ap some (r .tallied .same);
       once = subst AcceptedOnceFor (sym (list .same)) (acceptedOnce n cap inside (list .steps) (list .bytes) (omega (arith, list .few)));
     }

@@ -1,22 +1,23 @@
 -- No message is accepted twice: what an accepted offer took is delivered or held, so that another offer of it meets 14 or 15. Assumes nothing.
 use Prim.Native.Nat.{ℕ, _<_}
-use mathlib.Core.Bool.{true, false, cond, not}
+use mathlib.Core.Bool.{true, not}
 use mathlib.Core.List.{List, [], _∷_, _++_}
-use mathlib.Core.Logic.{_⊎_, inl, inr}
+use mathlib.Core.Logic.{inl, inr}
 use mathlib.Core.Option.{Option, none, some}
 use mathlib.Core.Path.{_≡_, _∙_, ap, refl, subst, sym}
 use native.Mathlib.Omega.{arith}
-use lib.Dec.{T, eqb, eqb→eq, leb, ltb, ltb→lt, nleb→lt}
-use lib.ListN.{getElem?, length}
+use lib.Dec.{T, eqb, eqb→eq, ltb, ltb→lt, nleb→lt}
+use lib.ListN.{getElem?}
 use Rattle.matrix.specs.Message.{Message, number}
 use Rattle.protocol.proofs.Good.{Good, Kept}
 use Rattle.protocol.proofs.Lists.{Snoc, at-none, at-snoc}
+use Rattle.protocol.proofs.Offering.{offer-cases}
 use Rattle.protocol.proofs.Origins.{other-origin}
 use Rattle.protocol.proofs.Runs.{step-good}
 use Rattle.protocol.specs.Answer.{Outcome, accepted, refuse}
 use Rattle.protocol.specs.Deliver.{deliver}
 use Rattle.protocol.specs.Node.{Node}
-use Rattle.protocol.specs.Offer.{claimsTooMuch, deliveredBefore, heldAlready, holding, noRoom, notForMe, offer}
+use Rattle.protocol.specs.Offer.{deliveredBefore, heldAlready, notForMe, offer}
 use Rattle.protocol.specs.Send.{send}
 use Rattle.protocol.specs.World.{Event, Issue, IssueAt, Step, World, afterStep, delivers, offerAt, offers, run, sends, start, step}
 use Rattle.wire.proofs.Tests.{cond-elim, not-not}
@@ -42,34 +43,18 @@ once-snoc h b once new t u p e f x y k l = go (at-snoc h b t e x) (at-snoc h b u
     go (inr a) (inl c) = absurd (new u p f c l (subst (λ (z : Event). Accepts z p) (a .1) k))
     go (inr a) (inr c) = a .0 ∙ sym (c .0)
 
--- an offer that is accepted met none of 12, 14 and 15
-module _ (d : Node) (m : Message) (Q : Type 0)
-    (free : T (not (notForMe d m)) → T (not (deliveredBefore d m)) → T (not (heldAlready d m)) → Q) where
-  abbrev Free : Outcome → Type 0
-  Free r = accepted (r .answer) ≡ true → Q
+-- an offer that is accepted is of a message that is for the node, not delivered and not held
+abbrev Free : Node → Message → Type 0
+Free d m = T (not (notForMe d m)) × T (not (deliveredBefore d m)) × T (not (heldAlready d m))
 
-  refused-free : (k : ℕ) → Free (refuse k d)
-  refused-free k z = let y : _≡_ {A = ℕ} 0 1 = cc in absurd (omega arith)
+accepted-free : (d : Node) (m : Message) → accepted (offer d m .answer) ≡ true → Free d m
+accepted-free d m = offer-cases d m P (λ _. refused 12) (λ _. refused 13) (λ _. refused 14) (λ _. refused 15) (λ _. refused 16) (λ a b c _ _. (a, b, c))
+  where
+    P : Outcome → Type 0
+    P r = accepted (r .answer) ≡ true → Free d m
 
-  accepted-free : accepted (offer d m .answer) ≡ true → Q
-  unfolding offer
-  accepted-free =
-      cond-elim Free (notForMe d m) (refuse 12 d) t₂ (λ _. refused-free 12)
-      (λ a. cond-elim Free (claimsTooMuch d m) (refuse 13 d) t₃ (λ _. refused-free 13)
-      (λ _. cond-elim Free (deliveredBefore d m) (refuse 14 d) t₄ (λ _. refused-free 14)
-      (λ b. cond-elim Free (heldAlready d m) (refuse 15 d) t₅ (λ _. refused-free 15) (λ c z. free a b c))))
-    where
-      t₅ : Outcome
-      t₅ = cond (noRoom d m) (refuse 16 d) (holding d m)
-
-      t₄ : Outcome
-      t₄ = cond (heldAlready d m) (refuse 15 d) t₅
-
-      t₃ : Outcome
-      t₃ = cond (deliveredBefore d m) (refuse 14 d) t₄
-
-      t₂ : Outcome
-      t₂ = cond (claimsTooMuch d m) (refuse 13 d) t₃
+    refused : (k : ℕ) → P (refuse k d)
+    refused k z = let y : _≡_ {A = ℕ} 0 1 = cc in absurd (omega arith)
 
 module _ (n : ℕ) (caps : ℕ → ℕ) (w : World) (g : Good n caps w) (once : AcceptedOnce (w .history)) where
   -- of issue p, which is l, at node i
@@ -79,17 +64,14 @@ module _ (n : ℕ) (caps : ℕ → ℕ) (w : World) (g : Good n caps w) (once : 
 
     -- what was taken before is not taken again
     again : Kept (w .nodes (l .message .to)) (l .message) → accepted (offer d (l .message) .answer) ≡ true → ⊥
-    again k = accepted-free d (l .message) ⊥ (λ a b c. go a b c k)
+    again k z =
+        let f = accepted-free d (l .message) z in
+        let here : l .message .to ≡ i = eqb→eq (l .message .to) (d .me) (not-not (eqb (l .message .to) (d .me)) (f .0)) ∙ g .node i hi .me in
+        go f (subst (λ (x : ℕ). Kept (w .nodes x) (l .message)) here k)
       where
-        go : T (not (notForMe d (l .message))) → T (not (deliveredBefore d (l .message))) → T (not (heldAlready d (l .message)))
-            → Kept (w .nodes (l .message .to)) (l .message) → ⊥
-        go a b c k =
-            let here : l .message .to ≡ i = eqb→eq (l .message .to) (d .me) (not-not (eqb (l .message .to) (d .me)) a) ∙ g .node i hi .me in
-            taken b c (subst (λ (z : ℕ). Kept (w .nodes z) (l .message)) here k)
-          where
-            taken : T (not (deliveredBefore d (l .message))) → T (not (heldAlready d (l .message))) → Kept d (l .message) → ⊥
-            taken b c (inl h) = omega (arith, nleb→lt (number (l .message)) (d .deliv (l .message .from)) b)
-            taken b c (inr h) = other-origin (d .held) (l .message) c (h .0) (l .message) (h .1) refl refl
+        go : Free d (l .message) → Kept d (l .message) → ⊥
+        go f (inl h) = omega (arith, nleb→lt (number (l .message)) (d .deliv (l .message .from)) (f .1))
+        go f (inr h) = other-origin (d .held) (l .message) (f .2) (h .0) (l .message) (h .1) refl refl
 
     offer-once : AcceptedOnce (afterStep w i (offers i p) (offer d (l .message)) .history)
     offer-once = once-snoc (w .history) _ once new

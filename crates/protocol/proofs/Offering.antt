@@ -30,6 +30,31 @@ pub le-deliverable : (d : Node) (m : Message) → ((x : ℕ) → x < 12 → m .e
 unfolding deliverable
 le-deliverable d m f = all-each 12 (λ x. leb (m .entries x (d .me)) (d .deliv x)) (λ x h. le→leb (m .entries x (d .me)) (d .deliv x) (f x h))
 
+-- an offer by its checks: what holds of each refusal, and of a message that is held, holds of its outcome
+pub offer-cases : (d : Node) (m : Message) (P : Outcome → Type 0) → (T (notForMe d m) → P (refuse 12 d)) → (T (claimsTooMuch d m) → P (refuse 13 d))
+    → (T (deliveredBefore d m) → P (refuse 14 d)) → (T (heldAlready d m) → P (refuse 15 d)) → (T (noRoom d m) → P (refuse 16 d))
+    → (T (not (notForMe d m)) → T (not (deliveredBefore d m)) → T (not (heldAlready d m)) → T (not (noRoom d m)) → P (holding d m))
+    → P (offer d m)
+unfolding offer
+offer-cases d m P r₁₂ r₁₃ r₁₄ r₁₅ r₁₆ held =
+    cond-elim P (notForMe d m) (refuse 12 d) t₂ r₁₂
+    (λ a. cond-elim P (claimsTooMuch d m) (refuse 13 d) t₃ r₁₃
+    (λ _. cond-elim P (deliveredBefore d m) (refuse 14 d) t₄ r₁₄
+    (λ b. cond-elim P (heldAlready d m) (refuse 15 d) t₅ r₁₅
+    (λ c. cond-elim P (noRoom d m) (refuse 16 d) (holding d m) r₁₆ (λ e. held a b c e)))))
+  where
+    t₅ : Outcome
+    t₅ = cond (noRoom d m) (refuse 16 d) (holding d m)
+
+    t₄ : Outcome
+    t₄ = cond (heldAlready d m) (refuse 15 d) t₅
+
+    t₃ : Outcome
+    t₃ = cond (deliveredBefore d m) (refuse 14 d) t₄
+
+    t₂ : Outcome
+    t₂ = cond (claimsTooMuch d m) (refuse 13 d) t₃
+
 -- one more message in the queue
 queue-snoc : (log : List Issue) (history : List Event) (k : ℕ) (v : ℕ → ℕ) (s : List Message) (f : Message) → SoundQueue log history k v s
     → Origin log history f → f .to ≡ k → v (f .from) < number f
@@ -113,29 +138,12 @@ module _ (n : ℕ) (caps : ℕ → ℕ) (w : World) (g : Good n caps w) (i : ℕ
 
   -- each check, then the message is held
   pub offer-good : Good n caps (afterStep w i (offers i p) (offer (w .nodes i) (l .message)))
-  unfolding offer
   offer-good =
-      subst (λ (z : Node). Good n caps (afterStep w i (offers i p) (offer z f))) (sym (node-eq n caps w g i hi))
-      (cond-elim P (notForMe d f) (refuse 12 d) t₂ (λ _. refused-good 12)
-      (λ a. cond-elim P (claimsTooMuch d f) (refuse 13 d) t₃ (λ _. refused-good 13)
-      (λ _. cond-elim P (deliveredBefore d f) (refuse 14 d) t₄ (λ _. refused-good 14)
-      (λ b. cond-elim P (heldAlready d f) (refuse 15 d) t₅ (λ _. refused-good 15)
-      (λ c. cond-elim P (noRoom d f) (refuse 16 d) (holding d f) (λ _. refused-good 16) (λ e. held a b c e))))))
+      subst (λ (z : Node). P (offer z f)) (sym (node-eq n caps w g i hi))
+      (offer-cases d f P (λ _. refused-good 12) (λ _. refused-good 13) (λ _. refused-good 14) (λ _. refused-good 15) (λ _. refused-good 16) held)
     where
       P : Outcome → Type 0
       P r = Good n caps (afterStep w i (offers i p) r)
-
-      t₅ : Outcome
-      t₅ = cond (noRoom d f) (refuse 16 d) (holding d f)
-
-      t₄ : Outcome
-      t₄ = cond (heldAlready d f) (refuse 15 d) t₅
-
-      t₃ : Outcome
-      t₃ = cond (deliveredBefore d f) (refuse 14 d) t₄
-
-      t₂ : Outcome
-      t₂ = cond (claimsTooMuch d f) (refuse 13 d) t₃
 
       refused-good : (r : ℕ) → P (refuse r d)
       refused-good r = subst (λ (z : Node). P (refuse r z)) (node-eq n caps w g i hi) (refuse-good n caps w g i hi (offers i p) r)

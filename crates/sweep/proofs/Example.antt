@@ -1,6 +1,4 @@
--- A small load, computed by the checker on the definition: n 2, seed 1, 14 draws. Under each cap they are four offers while nothing is issued, with a
--- delivery of nothing among them; a send from 0 to 1, its offer and two more of it (15); a send from 1 to 0; a delivery of nothing at 0; the delivery of the
--- first frame at 1; one more offer of it (14); and the offer of the second frame. Assumes nothing.
+-- Two small loads, computed by the checker on the definition. Assumes nothing.
 use Prim.Native.Nat.{ℕ}
 use mathlib.Core.List.{List, [], _∷_, _++_}
 use mathlib.Core.Path.{_≡_, refl}
@@ -42,18 +40,33 @@ use Rattle.xorshift.specs.Xorshift.{next}
 use Rattle.draws.specs.Draws.{deliveryOf, offerOf, sendOf, stepOf}
 use Rattle.sweep.specs.Load.{afterDraws, answered, capRows, made, output}
 
--- the input line
+-- n 2, seed 1, 14 draws. Under each cap they are four offers while nothing is issued, with a delivery of nothing among them; a send from 0 to 1, its offer and
+-- two more of it (15); a send from 1 to 0; a delivery of nothing at 0; the delivery of the first frame at 1; one more offer of it (14); and the offer of the
+-- second frame
 abbrev pub input : List ℕ
 input = 50 ∷ 32 ∷ 49 ∷ 32 ∷ 49 ∷ 52 ∷ 10 ∷ []
 
--- and the table
+-- its table: both frames were deliverable when they were accepted, so there is no delay
 abbrev pub table : List ℕ
 table =
     (50 ∷ 32 ∷ 50 ∷ 32 ∷ 48 ∷ 32 ∷ 49 ∷ 32 ∷ 48 ∷ 32 ∷ 48 ∷ 10 ∷ [])
     ++ (51 ∷ 32 ∷ 50 ∷ 32 ∷ 48 ∷ 32 ∷ 49 ∷ 32 ∷ 48 ∷ 32 ∷ 48 ∷ 10 ∷ [])
     ++ (52 ∷ 32 ∷ 50 ∷ 32 ∷ 48 ∷ 32 ∷ 49 ∷ 32 ∷ 48 ∷ 32 ∷ 48 ∷ 10 ∷ [])
 
-pub example : output input ≡ table
+-- n 2, seed 78840, 15 draws. Under each cap: a delivery of nothing; two sends from 0 to 1; the offer of the second frame, which has to wait; two deliveries of
+-- nothing at 0; the same offer (15); two deliveries that pass over the second frame; the offer of the first; a delivery of nothing at 0; both deliveries; a
+-- delivery of nothing; and the second frame once more (14)
+abbrev pub waiting : List ℕ
+waiting = 50 ∷ 32 ∷ 55 ∷ 56 ∷ 56 ∷ 52 ∷ 48 ∷ 32 ∷ 49 ∷ 53 ∷ 10 ∷ []
+
+-- its table: one delay, that of the second frame
+abbrev pub waited : List ℕ
+waited =
+    (50 ∷ 32 ∷ 50 ∷ 32 ∷ 48 ∷ 32 ∷ 50 ∷ 32 ∷ 49 ∷ 32 ∷ 48 ∷ 10 ∷ [])
+    ++ (51 ∷ 32 ∷ 50 ∷ 32 ∷ 48 ∷ 32 ∷ 50 ∷ 32 ∷ 49 ∷ 32 ∷ 48 ∷ 10 ∷ [])
+    ++ (52 ∷ 32 ∷ 50 ∷ 32 ∷ 48 ∷ 32 ∷ 50 ∷ 32 ∷ 49 ∷ 32 ∷ 48 ∷ 10 ∷ [])
+
+pub examples : (output input ≡ table) × (output waiting ≡ waited)
 unfolding setUp inRange cutFor sendCall offerCall deliverCall brokenRecord brokenRules zeroDiagonal zeroColumn withinLimit zeroFrom count columnCount flat entry
     atLimit protocolSend.send protocolOffer.offer protocolDeliver.deliver deliverable trimFor fullest clear only merge framesOf encode sealed front headerBytes
     headerOf header ownLength entriesBytes entryBytes entriesOf listed placed entriesFrom entryAt matrixOf le16 le32 u16At u32At bytes.put trailer
@@ -62,4 +75,4 @@ unfolding setUp inRange cutFor sendCall offerCall deliverCall brokenRecord broke
     sendStep offerStep deliverStep named issueFrom upTo32 share noCounters withExtras countedSend countedOffer countedDelivery countedNothing
     lineEnd numberRow spaced decimal digits value continued isDigit split grown countedBy request ofLines ofFields ofNumbers outOfRange wrongN wrongSeed
     wrongDraws next stepOf sendOf offerOf deliveryOf made afterDraws capRows answered
-example = refl
+examples = (refl, refl)
