@@ -3,10 +3,11 @@ use Prim.Native.Nat.{ℕ, _+_, _≤_, _<_}
 use mathlib.Core.Bool.{Bool, true, false}
 use mathlib.Core.List.{List, [], _∷_, _++_}
 use mathlib.Core.Option.{some}
-use mathlib.Core.Path.{_≡_, ap, refl, subst, sym}
+use mathlib.Core.Path.{_≡_, _∙_, ap, refl, subst, sym}
 use native.Mathlib.Omega.{arith}
 use Rattle.matrix.specs.Message.{InRange}
 use Rattle.node.specs.declared.OfferAnswer.{OfferAnswer}
+use Rattle.node.specs.declared.OfferAnswer.the-variants as offerAnswer
 use Rattle.causality.proofs.Demand3.{acceptedOnce, demand3}
 use Rattle.causality.specs.AcceptedOnce.{AcceptedOnceFor}
 use Rattle.causality.specs.Demand3.{Demand3For, Event, World, offered}
@@ -28,6 +29,11 @@ use Rattle.counting.proofs.Lists.{reached-start}
 delays-more : (l : List Event) (e : Event) → delays (l ++ (e ∷ [])) ≡ delays l + delay (e .answer)
 delays-more [] e = omega arith
 delays-more (x ∷ l) e = omega (arith, delays-more l e)
+
+-- an accepted offer's answer has one where its frame has to wait
+delay-waits : (count : ℕ) (ready : Bool) → delay (offered (offerAnswer.Held count ready)) ≡ waits ready
+delay-waits count true = refl
+delay-waits count false = refl
 
 waits-most : (ready : Bool) → waits ready ≤ 1
 waits-most true = omega arith
@@ -61,7 +67,7 @@ module _ (k : ℕ) (t : Counters) (w : World) (h : Tallied k t (w .history)) whe
   unfolding countedBy
   offer-tallied short m =
       offer-cases w Step refused-tallied m
-      (λ p g count ready e told. event-tallied _ (waits ready) (ap (λ (a : OfferAnswer). delay (offered a)) e) (waits-most ready) _
+      (λ p g count ready e told. event-tallied _ (waits ready) (ap (λ (a : OfferAnswer). delay (offered a)) e ∙ delay-waits count ready) (waits-most ready) _
       (delays-offer t (waits ready) (omega (arith, h .same, h .few, waits-most ready))))
 
   deliver-tallied : (n limit j : ℕ) → Step (deliverStep n limit w j)

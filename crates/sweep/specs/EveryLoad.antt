@@ -1,4 +1,4 @@
--- Demand 3 speaks of every load: whatever is drawn, the world after it is one that a list of demand 3 leads to.
+-- Demand 3 speaks of every load: whatever is drawn, the world after it is one that a list of demand 3 leads to, and its delays are those of that list.
 use Prim.Native.Nat.{ℕ, _*_, _≤_, _<_}
 use Rattle.counting.specs.OfList.{OfList}
 use Rattle.sweep.specs.Load.{runOf}
