@@ -26,7 +26,7 @@ use Rattle.protocol.proofs.Bounds.{claims-little}
 use Rattle.protocol.proofs.Good.{Good}
 use Rattle.protocol.proofs.Grown.{nodeAt}
 use Rattle.protocol.proofs.Lists.{at-none}
-use Rattle.protocol.proofs.Offering.{offer-cases}
+use Rattle.protocol.proofs.Offering.{offer-checks}
 use Rattle.protocol.specs.Offer.{claimsTooMuch, holding, offer}
 use Rattle.wire.proofs.Tests.{cond-no, eq→eqb, is-false, T-not-not}
 use Rattle.protocol.specs.World as messages
@@ -43,7 +43,7 @@ data Case (d : MessageNode) (m : Message) : Type 0 where
 -- one that claims no more than stands in row me
 case : (d : MessageNode) (m : Message) → T (not (claimsTooMuch d m)) → Case d m
 case d m c =
-    offer-cases d m (λ (o : protocol.Outcome). offer d m ≡ o → Case d m) (λ _ e. refuses 12 tt (inr (inl refl)) e)
+    offer-checks d m (λ (o : protocol.Outcome). offer d m ≡ o → Case d m) (λ _ e. refuses 12 tt (inr (inl refl)) e)
     (λ t _. absurd (T-not (claimsTooMuch d m) c t)) (λ _ e. refuses 14 tt (inr (inr (inl refl))) e) (λ _ e. refuses 15 tt (inr (inr (inr (inl refl)))) e)
     (λ _ e. refuses 16 tt (inr (inr (inr (inr (inl refl))))) e) (λ _ _ _ _ e. accepts e) refl
 

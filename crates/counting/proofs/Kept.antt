@@ -13,6 +13,7 @@ use Rattle.causality.specs.AcceptedOnce.{AcceptedOnceFor}
 use Rattle.causality.specs.Demand3.{Demand3For, Event, World, offered}
 use Rattle.counters.proofs.Delays.{delays-delivery, delays-nothing, delays-offer, delays-send, delays-start}
 use Rattle.counters.specs.declared.Counters.{Counters}
+use Rattle.world.proofs.Cases.{deliver-cases, offer-cases, send-cases}
 use Rattle.world.proofs.Reach.{reached-later}
 use Rattle.world.proofs.Simulated.{deliver-reached, offer-reached, send-reached}
 use Rattle.world.specs.Reached.{Reached}
@@ -20,7 +21,6 @@ use Rattle.world.specs.Steps.{AfterStep, deliverStep, offerStep, refuse, sendSt
 use Rattle.counting.specs.Delays.{delay, delays}
 use Rattle.counting.specs.OfList.{OfList}
 use Rattle.counting.specs.State.{State, countedBy, opened, stateAfter, waits}
-use Rattle.counting.proofs.Cases.{deliver-cases, offer-cases, send-cases}
 use Rattle.counting.proofs.Lists.{reached-start}
 
 -- ---- the delays
@@ -61,20 +61,20 @@ module _ (k : ℕ) (t : Counters) (w : World) (h : Tallied k t (w .history)) whe
   send-tallied : (n limit i j : ℕ) → Step (sendStep n limit w i j)
   unfolding countedBy
   send-tallied n limit i j =
-      send-cases w Step refused-tallied n limit i j (λ bytes extras told. event-tallied _ 0 refl (omega arith) _ (omega (arith, delays-send t extras)))
+      send-cases w Step refused-tallied n limit i j (λ _ bytes extras told. event-tallied _ 0 refl (omega arith) _ (omega (arith, delays-send t extras)))
 
   offer-tallied : k < 1000000000 → (m : ℕ) → Step (offerStep w m)
   unfolding countedBy
   offer-tallied short m =
       offer-cases w Step refused-tallied m
-      (λ p g count ready e told. event-tallied _ (waits ready) (ap (λ (a : OfferAnswer). delay (offered a)) e ∙ delay-waits count ready) (waits-most ready) _
+      (λ p g at count ready e told. event-tallied _ (waits ready) (ap (λ (a : OfferAnswer). delay (offered a)) e ∙ delay-waits count ready) (waits-most ready) _
       (delays-offer t (waits ready) (omega (arith, h .same, h .few, waits-most ready))))
 
   deliver-tallied : (n limit j : ℕ) → Step (deliverStep n limit w j)
   unfolding countedBy
   deliver-tallied n limit j =
-      deliver-cases w Step refused-tallied n limit j (λ tried told. event-tallied _ 0 refl (omega arith) _ (omega (arith, delays-nothing t tried)))
-      (λ d told. event-tallied _ 0 refl (omega arith) _ (omega (arith, delays-delivery t (d .extras))))
+      deliver-cases w Step refused-tallied n limit j (λ _ tried told. event-tallied _ 0 refl (omega arith) _ (omega (arith, delays-nothing t tried)))
+      (λ _ d told. event-tallied _ 0 refl (omega arith) _ (omega (arith, delays-delivery t (d .extras))))
 
 -- ---- the list and the delays
 
@@ -95,24 +95,23 @@ module _ (n cap k : ℕ) (z : State) (r : Kept n cap k z) where
     tallied = record { same = r .tallied .same; few = omega (arith, r .tallied .few) };
   }
 
-  module _ (limit : ℕ) where
-    pub send-kept : (i j : ℕ) → Kept n cap (k + 1) (stateAfter (z .counters) (sendStep n limit (z .world) i j))
-    send-kept i j = record {
-      reached = send-reached n cap limit k (z .world) (r .reached) i j;
-      tallied = send-tallied k (z .counters) (z .world) (r .tallied) n limit i j;
-    }
+  pub send-kept : (limit i j : ℕ) → Kept n cap (k + 1) (stateAfter (z .counters) (sendStep n limit (z .world) i j))
+  send-kept limit i j = record {
+    reached = send-reached n cap k (z .world) (r .reached) limit i j;
+    tallied = send-tallied k (z .counters) (z .world) (r .tallied) n limit i j;
+  }
 
-    pub offer-kept : InRange n cap → k < 1000000000 → (m : ℕ) → Kept n cap (k + 1) (stateAfter (z .counters) (offerStep (z .world) m))
-    offer-kept inside short m = record {
-      reached = offer-reached n cap limit k (z .world) (r .reached) inside short m;
-      tallied = offer-tallied k (z .counters) (z .world) (r .tallied) short m;
-    }
+  pub offer-kept : InRange n cap → k < 1000000000 → (m : ℕ) → Kept n cap (k + 1) (stateAfter (z .counters) (offerStep (z .world) m))
+  offer-kept inside short m = record {
+    reached = offer-reached n cap k (z .world) (r .reached) inside short m;
+    tallied = offer-tallied k (z .counters) (z .world) (r .tallied) short m;
+  }
 
-    pub deliver-kept : (j : ℕ) → Kept n cap (k + 1) (stateAfter (z .counters) (deliverStep n limit (z .world) j))
-    deliver-kept j = record {
-      reached = deliver-reached n cap limit k (z .world) (r .reached) j;
-      tallied = deliver-tallied k (z .counters) (z .world) (r .tallied) n limit j;
-    }
+  pub deliver-kept : (limit j : ℕ) → Kept n cap (k + 1) (stateAfter (z .counters) (deliverStep n limit (z .world) j))
+  deliver-kept limit j = record {
+    reached = deliver-reached n cap k (z .world) (r .reached) limit j;
+    tallied = deliver-tallied k (z .counters) (z .world) (r .tallied) n limit j;
+  }
 
 -- after fewer than 1,000,000,000
 pub of-list : (n cap k : ℕ) (z : State) → InRange n cap → Kept n cap k z → k < 1000000000 → OfList n cap k z

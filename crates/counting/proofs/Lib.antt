@@ -1,5 +1,4 @@
 -- Laws that the proofs of this crate and of the crates above cite.
-pub mod Cases
 pub mod Counts
 pub mod Lists
 pub mod Kept

@@ -3,24 +3,24 @@ use Prim.Native.Nat.{ℕ, _<_}
 use mathlib.Core.Bool.{true, not}
 use mathlib.Core.List.{List, [], _∷_, _++_}
 use mathlib.Core.Logic.{inl, inr}
-use mathlib.Core.Option.{Option, none, some}
+use mathlib.Core.Option.{some}
 use mathlib.Core.Path.{_≡_, _∙_, ap, refl, subst, sym}
 use native.Mathlib.Omega.{arith}
-use lib.Dec.{T, eqb, eqb→eq, ltb, ltb→lt, nleb→lt}
+use lib.Dec.{T, eqb, eqb→eq, nleb→lt}
 use lib.ListN.{getElem?}
 use Rattle.matrix.specs.Message.{Message, number}
 use Rattle.protocol.proofs.Good.{Good, Kept}
 use Rattle.protocol.proofs.Lists.{Snoc, at-none, at-snoc}
-use Rattle.protocol.proofs.Offering.{offer-cases}
+use Rattle.protocol.proofs.Offering.{offer-checks}
 use Rattle.protocol.proofs.Origins.{other-origin}
-use Rattle.protocol.proofs.Runs.{step-good}
+use Rattle.protocol.proofs.Runs.{step-cases, step-good}
 use Rattle.protocol.specs.Answer.{Outcome, accepted, refuse}
 use Rattle.protocol.specs.Deliver.{deliver}
 use Rattle.protocol.specs.Node.{Node}
 use Rattle.protocol.specs.Offer.{deliveredBefore, heldAlready, notForMe, offer}
 use Rattle.protocol.specs.Send.{send}
-use Rattle.protocol.specs.World.{Event, Issue, IssueAt, Step, World, afterStep, delivers, offerAt, offers, run, sends, start, step}
-use Rattle.wire.proofs.Tests.{cond-elim, not-not}
+use Rattle.protocol.specs.World.{Event, Issue, IssueAt, Step, World, afterStep, delivers, offers, run, sends, start, step}
+use Rattle.wire.proofs.Tests.{not-not}
 
 -- an accepted offer of issue p
 pub record Accepts (e : Event) (p : ℕ) : Type 0 where
@@ -48,7 +48,7 @@ abbrev Free : Node → Message → Type 0
 Free d m = T (not (notForMe d m)) × T (not (deliveredBefore d m)) × T (not (heldAlready d m))
 
 accepted-free : (d : Node) (m : Message) → accepted (offer d m .answer) ≡ true → Free d m
-accepted-free d m = offer-cases d m P (λ _. refused 12) (λ _. refused 13) (λ _. refused 14) (λ _. refused 15) (λ _. refused 16) (λ a b c _ _. (a, b, c))
+accepted-free d m = offer-checks d m P (λ _. refused 12) (λ _. refused 13) (λ _. refused 14) (λ _. refused 15) (λ _. refused 16) (λ a b c _ _. (a, b, c))
   where
     P : Outcome → Type 0
     P r = accepted (r .answer) ≡ true → Free d m
@@ -89,20 +89,11 @@ module _ (n : ℕ) (caps : ℕ → ℕ) (w : World) (g : Good n caps w) (once : 
   other-once i s r h = once-snoc (w .history) _ once (λ t p e a k b. h (b .node) p (b .offered))
 
   step-once : (s : Step) → AcceptedOnce (step n w s .history)
-  unfolding step
-  step-once (sends i to body) =
-      cond-elim (λ (z : World). AcceptedOnce (z .history)) (ltb i n) (afterStep w i (sends i to body) (send (w .nodes i) to body)) w
-      (λ _. other-once i (sends i to body) (send (w .nodes i) to body) (λ j p z. let y : _≡_ {A = ℕ} 0 1 = cc in omega arith)) (λ _. once)
-  step-once (offers i p) =
-      cond-elim (λ (z : World). AcceptedOnce (z .history)) (ltb i n) (offerAt w i p (getElem? (w .log) p)) w
-      (λ t. go (ltb→lt i n t) (getElem? (w .log) p) refl) (λ _. once)
-    where
-      go : i < n → (o : Option Issue) → getElem? (w .log) p ≡ o → AcceptedOnce (offerAt w i p o .history)
-      go hi none e = once
-      go hi (some l) e = offer-once i hi p l e
-  step-once (delivers i) =
-      cond-elim (λ (z : World). AcceptedOnce (z .history)) (ltb i n) (afterStep w i (delivers i) (deliver (w .nodes i))) w
-      (λ _. other-once i (delivers i) (deliver (w .nodes i)) (λ j p z. let y : _≡_ {A = ℕ} 0 1 = cc in omega arith)) (λ _. once)
+  step-once =
+      step-cases n w (λ (z : World). AcceptedOnce (z .history)) once
+      (λ i to body _. other-once i (sends i to body) (send (w .nodes i) to body) (λ j p z. let y : _≡_ {A = ℕ} 0 1 = cc in omega arith))
+      (λ i p l hi at. offer-once i hi p l at)
+      (λ i _. other-once i (delivers i) (deliver (w .nodes i)) (λ j p z. let y : _≡_ {A = ℕ} 0 1 = cc in omega arith))
 
 -- a list of steps
 pub run-once : (n : ℕ) (caps : ℕ → ℕ) (w : World) (l : List Step) → Good n caps w → AcceptedOnce (w .history) → AcceptedOnce (run n w l .history)

@@ -31,12 +31,12 @@ unfolding deliverable
 le-deliverable d m f = all-each 12 (λ x. leb (m .entries x (d .me)) (d .deliv x)) (λ x h. le→leb (m .entries x (d .me)) (d .deliv x) (f x h))
 
 -- an offer by its checks: what holds of each refusal, and of a message that is held, holds of its outcome
-pub offer-cases : (d : Node) (m : Message) (P : Outcome → Type 0) → (T (notForMe d m) → P (refuse 12 d)) → (T (claimsTooMuch d m) → P (refuse 13 d))
+pub offer-checks : (d : Node) (m : Message) (P : Outcome → Type 0) → (T (notForMe d m) → P (refuse 12 d)) → (T (claimsTooMuch d m) → P (refuse 13 d))
     → (T (deliveredBefore d m) → P (refuse 14 d)) → (T (heldAlready d m) → P (refuse 15 d)) → (T (noRoom d m) → P (refuse 16 d))
     → (T (not (notForMe d m)) → T (not (deliveredBefore d m)) → T (not (heldAlready d m)) → T (not (noRoom d m)) → P (holding d m))
     → P (offer d m)
 unfolding offer
-offer-cases d m P r₁₂ r₁₃ r₁₄ r₁₅ r₁₆ held =
+offer-checks d m P r₁₂ r₁₃ r₁₄ r₁₅ r₁₆ held =
     cond-elim P (notForMe d m) (refuse 12 d) t₂ r₁₂
     (λ a. cond-elim P (claimsTooMuch d m) (refuse 13 d) t₃ r₁₃
     (λ _. cond-elim P (deliveredBefore d m) (refuse 14 d) t₄ r₁₄
@@ -140,7 +140,7 @@ module _ (n : ℕ) (caps : ℕ → ℕ) (w : World) (g : Good n caps w) (i : ℕ
   pub offer-good : Good n caps (afterStep w i (offers i p) (offer (w .nodes i) (l .message)))
   offer-good =
       subst (λ (z : Node). P (offer z f)) (sym (node-eq n caps w g i hi))
-      (offer-cases d f P (λ _. refused-good 12) (λ _. refused-good 13) (λ _. refused-good 14) (λ _. refused-good 15) (λ _. refused-good 16) held)
+      (offer-checks d f P (λ _. refused-good 12) (λ _. refused-good 13) (λ _. refused-good 14) (λ _. refused-good 15) (λ _. refused-good 16) held)
     where
       P : Outcome → Type 0
       P r = Good n caps (afterStep w i (offers i p) r)

@@ -18,23 +18,31 @@ use Rattle.protocol.specs.Answer.{Outcome}
 use Rattle.protocol.specs.Deliver.{deliver}
 use Rattle.protocol.specs.Offer.{offer}
 use Rattle.protocol.specs.Send.{send}
-use Rattle.protocol.specs.World.{Step, sends, offers, delivers, Issue, step, World, start, afterStep, offerAt, run}
+use Rattle.protocol.specs.World.{Step, sends, offers, delivers, Issue, IssueAt, step, World, start, afterStep, offerAt, run}
 use Rattle.wire.proofs.Tests.{cond-elim}
+
+-- a step by its cases: what holds of the world as it was, and of what each call leaves, holds of the world after it
+pub step-cases : (n : ℕ) (w : World) (P : World → Type 0) → P w
+    → ((i to : ℕ) (body : List ℕ) → i < n → P (afterStep w i (sends i to body) (send (w .nodes i) to body)))
+    → ((i p : ℕ) (l : Issue) → i < n → IssueAt w p l → P (afterStep w i (offers i p) (offer (w .nodes i) (l .message))))
+    → ((i : ℕ) → i < n → P (afterStep w i (delivers i) (deliver (w .nodes i)))) → (s : Step) → P (step n w s)
+unfolding step
+step-cases n w P same sent offered delivered (sends i to body) =
+    cond-elim P (ltb i n) (afterStep w i (sends i to body) (send (w .nodes i) to body)) w (λ t. sent i to body (ltb→lt i n t)) (λ _. same)
+step-cases n w P same sent offered delivered (offers i p) =
+    cond-elim P (ltb i n) (offerAt w i p (getElem? (w .log) p)) w (λ t. go (ltb→lt i n t) (getElem? (w .log) p) refl) (λ _. same)
+  where
+    go : i < n → (o : Option Issue) → getElem? (w .log) p ≡ o → P (offerAt w i p o)
+    go h none e = same
+    go h (some l) e = offered i p l h e
+step-cases n w P same sent offered delivered (delivers i) =
+    cond-elim P (ltb i n) (afterStep w i (delivers i) (deliver (w .nodes i))) w (λ t. delivered i (ltb→lt i n t)) (λ _. same)
 
 -- a step
 pub step-good : (n : ℕ) (caps : ℕ → ℕ) (w : World) (s : Step) → Good n caps w → Good n caps (step n w s)
-unfolding step
-step-good n caps w (sends i to body) g =
-    cond-elim (Good n caps) (ltb i n) (afterStep w i (sends i to body) (send (w .nodes i) to body)) w
-    (λ t. send-good n caps w g i to body (ltb→lt i n t)) (λ _. g)
-step-good n caps w (offers i p) g =
-    cond-elim (Good n caps) (ltb i n) (offerAt w i p (getElem? (w .log) p)) w (λ t. go (ltb→lt i n t) (getElem? (w .log) p) refl) (λ _. g)
-  where
-    go : i < n → (o : Option Issue) → getElem? (w .log) p ≡ o → Good n caps (offerAt w i p o)
-    go hi none e = g
-    go hi (some l) e = offer-good n caps w g i hi p l e
-step-good n caps w (delivers i) g =
-    cond-elim (Good n caps) (ltb i n) (afterStep w i (delivers i) (deliver (w .nodes i))) w (λ t. deliver-good n caps w g i (ltb→lt i n t)) (λ _. g)
+step-good n caps w s g =
+    step-cases n w (Good n caps) g (λ i to body h. send-good n caps w g i to body h) (λ i p l h e. offer-good n caps w g i h p l e)
+    (λ i h. deliver-good n caps w g i h) s
 
 -- a list of steps
 pub run-good : (n : ℕ) (caps : ℕ → ℕ) (w : World) (l : List Step) → Good n caps w → Good n caps (run n w l)
@@ -51,19 +59,9 @@ after-longer w i s r = rw length-snoc (omega arith)
 
 -- any step
 step-longer : (n : ℕ) (w : World) (s : Step) → Longer w (step n w s)
-unfolding step
-step-longer n w (sends i to body) =
-    cond-elim (λ (z : World). Longer w z) (ltb i n) (afterStep w i (sends i to body) (send (w .nodes i) to body)) w
-    (λ _. after-longer w i (sends i to body) (send (w .nodes i) to body)) (λ _. omega arith)
-step-longer n w (offers i p) =
-    cond-elim (λ (z : World). Longer w z) (ltb i n) (offerAt w i p (getElem? (w .log) p)) w (λ _. go (getElem? (w .log) p)) (λ _. omega arith)
-  where
-    go : (o : Option Issue) → Longer w (offerAt w i p o)
-    go none = omega arith
-    go (some l) = after-longer w i (offers i p) (offer (w .nodes i) (l .message))
-step-longer n w (delivers i) =
-    cond-elim (λ (z : World). Longer w z) (ltb i n) (afterStep w i (delivers i) (deliver (w .nodes i))) w
-    (λ _. after-longer w i (delivers i) (deliver (w .nodes i))) (λ _. omega arith)
+step-longer n w s =
+    step-cases n w (λ (z : World). Longer w z) (omega arith) (λ i to body _. after-longer w i (sends i to body) (send (w .nodes i) to body))
+    (λ i p l _ _. after-longer w i (offers i p) (offer (w .nodes i) (l .message))) (λ i _. after-longer w i (delivers i) (deliver (w .nodes i))) s
 
 -- no more events than steps
 pub run-length : (n : ℕ) (w : World) (l : List Step) → length (run n w l .history) ≤ length (w .history) + length l

@@ -20,7 +20,7 @@ module _ (n cap : ℕ) (inside : InRange n cap) where
   line-kept : (k : ℕ) (y : State) → Kept n cap k y → k < 1000000000 → (c : Command) → Kept n cap (k + 1) (line n y c .yard)
   unfolding line
   line-kept k y r h (command.Send i j) = send-kept n cap k y r maxIssues i j
-  line-kept k y r h (command.Offer m) = offer-kept n cap k y r maxIssues inside h m
+  line-kept k y r h (command.Offer m) = offer-kept n cap k y r inside h m
   line-kept k y r h (command.Deliver j) = deliver-kept n cap k y r maxIssues j
   line-kept k y r h command.Other = later-kept n cap k y r
 

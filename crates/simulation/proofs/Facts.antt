@@ -6,8 +6,8 @@ use native.Mathlib.Omega.{arith}
 use lib.ListN.{length, length-map}
 use Rattle.wire.proofs.Tests.{cond-elim}
 use Rattle.causality.specs.Demand3.{Issue, Label, World}
+use Rattle.world.proofs.Cases.{deliver-cases, offer-cases, send-cases}
 use Rattle.world.specs.Steps.{AfterStep, deliverStep, frames, issueFrom, named, offerStep, refuse, sendStep}
-use Rattle.counting.proofs.Cases.{deliver-cases, offer-cases, send-cases}
 use Rattle.simulation.specs.Asked.{Small}
 
 -- an issue that is found is one of the frames
@@ -32,16 +32,16 @@ module _ (w : World) where
 
   pub send-facts : (x n limit i j : ℕ) → StepFacts x w (sendStep n limit w i j)
   send-facts x n limit i j =
-      send-cases w (StepFacts x w) (refused-facts x) n limit i j (λ bytes extras t. record { small = tt; grown = (_, refl) })
+      send-cases w (StepFacts x w) (refused-facts x) n limit i j (λ _ bytes extras t. record { small = tt; grown = (_, refl) })
 
   pub offer-facts : (m : ℕ) → m < 1000 → StepFacts m w (offerStep w m)
   offer-facts m h =
-      offer-cases w (StepFacts m w) (refused-facts m) m (λ p g count ready e t. record { small = (h, omega (arith, t)); grown = (_, refl) })
+      offer-cases w (StepFacts m w) (refused-facts m) m (λ p g at count ready e t. record { small = (h, omega (arith, t)); grown = (_, refl) })
 
   pub deliver-facts : (n limit j : ℕ) → length (w .log) < 99 → j < 1000 → StepFacts j w (deliverStep n limit w j)
   deliver-facts n limit j l h =
-      deliver-cases w (StepFacts j w) (refused-facts j) n limit j (λ tried t. record { small = (h, omega (arith, t .0)); grown = (_, refl) })
-      (λ d t. record {
+      deliver-cases w (StepFacts j w) (refused-facts j) n limit j (λ _ tried t. record { small = (h, omega (arith, t .0)); grown = (_, refl) })
+      (λ _ d t. record {
         small = (
           h,
           omega (

@@ -19,7 +19,7 @@ module _ (n cap : ℕ) (inside : InRange n cap) where
   made-kept : (k : ℕ) (y : State) → Kept n cap k y → k < 1000000000 → (d : Draw) → Kept n cap (k + 1) (made n y d)
   unfolding made
   made-kept k y r h (draw.Send i j) = send-kept n cap k y r maxIssues i j
-  made-kept k y r h (draw.Offer m) = offer-kept n cap k y r maxIssues inside h m
+  made-kept k y r h (draw.Offer m) = offer-kept n cap k y r inside h m
   made-kept k y r h (draw.Deliver j) = deliver-kept n cap k y r maxIssues j
   made-kept k y r h draw.Nothing = later-kept n cap k y r
 
