@@ -1,7 +1,7 @@
 -- In a good world: delivered is decided, the queues hold what the history says, and an earliest undelivered message exists.
 -- With fewer than 1,000,000,000 steps an offer of it is accepted, or a deliver at its destination delivers a message.
 use Prim.Native.Nat.{ℕ, zero, suc, _≤_, _<_}
-use mathlib.Core.Bool.{true, not, cond, _&&_}
+use mathlib.Core.Bool.{true, not, _&&_}
 use mathlib.Core.Logic.{_⊎_, inl, inr}
 use mathlib.Core.Option.{Option, none, some}
 use mathlib.Core.Path.{_≡_, refl, sym, ap, subst, _∙_}
@@ -13,14 +13,14 @@ use Rattle.matrix.specs.Message.{Message, number}
 use Rattle.protocol.proofs.Bounds.{below-limit, claims-little}
 use Rattle.protocol.proofs.Good.{Origin, SoundNode, Kept, Good}
 use Rattle.protocol.proofs.Grown.{nodeAt, node-eq}
-use Rattle.protocol.proofs.Offering.{le-deliverable}
+use Rattle.protocol.proofs.Offering.{le-deliverable, offer-checks}
 use Rattle.protocol.proofs.Origins.{origin-at}
 use Rattle.protocol.proofs.Searching.{search-found, search-absent}
 use Rattle.protocol.specs.Answer.{label, accepted, delivery, Outcome, refuse}
 use Rattle.protocol.specs.Deliver.{Search, absent, found, search, conclude, deliver}
 use Rattle.protocol.specs.Demand3.{Delivered, Held, heldAt, QueueAgrees, Earliest, DeliversNew}
 use Rattle.protocol.specs.Node.{Node, atLimit}
-use Rattle.protocol.specs.Offer.{deliverable, notForMe, claimsTooMuch, deliveredBefore, heldAlready, noRoom, holding, offer}
+use Rattle.protocol.specs.Offer.{deliverable, notForMe, claimsTooMuch, deliveredBefore, noRoom, offer}
 use Rattle.protocol.specs.World.{Issue, World, IssueAt}
 use Rattle.wire.proofs.Tests.{T-not-not, and-T, cond-no, lt→nleb, ne→neqb, not-or}
 use Rattle.wire.specs.Limits.{maxHeld}
@@ -177,28 +177,16 @@ module _ (n : ℕ) (caps : ℕ → ℕ) (w : World) (g : Good n caps w) where
 
       -- an offer of it is accepted
       pub accepts-first : ¬ Held w p (f .message) → heldAt w i < maxHeld → accepted ((offer (w .nodes i) (f .message)) .answer) ≡ true
-      unfolding offer
       accepts-first free room =
-          subst (λ (z : Node). accepted ((offer z (f .message)) .answer) ≡ true) (sym (node-eq n caps w g i hi))
-          (ap (λ (z : Outcome). accepted (z .answer))
-          (cond-no (notForMe d (f .message)) (refuse 12 d) t₂ (T-not-not (eqb i i) (eqb-refl i))
-          ∙ cond-no (claimsTooMuch d (f .message)) (refuse 13 d) t₃ (claims-little n caps w g p f at i)
-          ∙ cond-no (deliveredBefore d (f .message)) (refuse 14 d) t₄ (lt→nleb (number (f .message)) (w .nodes i .deliv (f .message .from)) above)
-          ∙ cond-no (heldAlready d (f .message)) (refuse 15 d) t₅
-          (not-T (heldAlready d (f .message)) (λ t. let r = origin-at (w .nodes i .held) (f .message) t in free (same-held (r .0) (r .1) (r .2) (r .3) (r .4))))
-          ∙ cond-no (noRoom d (f .message)) (refuse 16 d) (holding d (f .message)) has-room))
+          subst (λ (z : Node). P (offer z (f .message))) (sym (node-eq n caps w g i hi))
+          (offer-checks d (f .message) P (λ t. absurd (T-not (notForMe d (f .message)) (T-not-not (eqb i i) (eqb-refl i)) t))
+          (λ t. absurd (T-not (claimsTooMuch d (f .message)) (claims-little n caps w g p f at i) t))
+          (λ t. absurd (T-not (deliveredBefore d (f .message)) (lt→nleb (number (f .message)) (w .nodes i .deliv (f .message .from)) above) t))
+          (λ t. let r = origin-at (w .nodes i .held) (f .message) t in absurd (free (same-held (r .0) (r .1) (r .2) (r .3) (r .4))))
+          (λ t. absurd (T-not (noRoom d (f .message)) has-room t)) (λ _ _ _ _. refl))
         where
-          t₅ : Outcome
-          t₅ = cond (noRoom d (f .message)) (refuse 16 d) (holding d (f .message))
-
-          t₄ : Outcome
-          t₄ = cond (heldAlready d (f .message)) (refuse 15 d) t₅
-
-          t₃ : Outcome
-          t₃ = cond (deliveredBefore d (f .message)) (refuse 14 d) t₄
-
-          t₂ : Outcome
-          t₂ = cond (claimsTooMuch d (f .message)) (refuse 13 d) t₃
+          P : Outcome → Type 0
+          P r = accepted (r .answer) ≡ true
 
           has-room : T (not (noRoom d (f .message)))
           has-room =

@@ -24,7 +24,8 @@ abbrev pub EveryYard : Type 0
 EveryYard = (n cap : ℕ) → startable n (cap ∷ cap ∷ cap ∷ cap ∷ []) ≡ true → (ls : List (List ℕ)) → length ls < 1000000000
     → OfList n cap (length ls) (afterLines n (opened n cap) ls)
 
--- an input s for which the yard prints some rows and then the T line of the state after `lines`, the input's lines but the first: a state that is of a list
+-- an input s in its pieces: the first line, the other lines, and what stands behind the last line feed. The yard prints rows for it, and then the T line of
+-- the state after the other lines, of which OfList speaks
 pub record Totalled (s : List ℕ) : Type 0 where
   pub first : List ℕ
   pub lines : List (List ℕ)

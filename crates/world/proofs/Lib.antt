@@ -1,4 +1,5 @@
--- Laws of `world`: frames in a log, the frames that a call wrote, worlds that a list leads to, a step by its cases, and a world that is stored at the start and stays so.
+-- Laws of `world`: frames in a log, the frames that a call wrote, worlds that a list leads to, a step by its cases, and a world that is stored at the start
+-- and stays so.
 pub mod Logs
 pub mod Written
 pub mod Reach
