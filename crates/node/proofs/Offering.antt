@@ -17,10 +17,10 @@ use Rattle.holdback.proofs.Slots.{length-held}
 use Rattle.holdback.specs.WrongQueue.{wrongQueue}
 use Rattle.holdback.specs.Slots.{heldFrames, heldMessages, laid, queueSize}
 use Rattle.matrix.specs.Message.{Message}
-use Rattle.node.proofs.Shared.{RecordPassed, first-met, first-none, queue-laid, record-met, record-passed, record-past}
+use Rattle.node.proofs.Shared.{RecordPassed, first-met, first-none, queue-laid, record-passed, record-past}
 use Rattle.node.specs.Answers.{AfterOffer, afterOffer}
 use Rattle.node.specs.Calls.{acceptOffer, offerCall, refusal, refuseOffer}
-use Rattle.node.specs.CallRefusals.{holdRefusal, offerRefusal, recordRefusal}
+use Rattle.node.specs.CallRefusals.{holdRefusal, offerRefusal, recordRefusal, takeRefusal}
 use Rattle.node.specs.Record.{nodeAt, brokenRecord, nodeOf}
 use Rattle.protocol.specs.Answer.{Outcome, accepted, refuse}
 use Rattle.protocol.specs.Node.{Node}
@@ -83,19 +83,19 @@ offer-refused r s q k e h = sym (offer-by-refusal r s q ∙ rw (← e, ne-eqb k 
 pub offer-accepted : (r : Record) (s q : List ℕ) → offerRefusal r s q ≡ 0 → acceptOffer r s q (holding (nodeAt r q) (decode s)) ≡ offerCall r s q
 offer-accepted r s q e = sym (offer-by-refusal r s q ∙ rw e)
 
--- a check of the record, of the frame, and of the protocol gives the refusal of the offer
-pub offer-record : (r : Record) (s q : List ℕ) (k : ℕ) → k ≡ recordRefusal r q false 0 → (k ≡ 0 → ⊥) → k ≡ offerRefusal r s q
-unfolding offerRefusal
-offer-record r s q k e h = record-met r q false k _ e h
+-- a check of the frame, and of the protocol, gives the refusal of the offer, whatever else is lent
+pub take-frame : (r : Record) (s q : List ℕ) (short : Bool) → RecordPassed r q short → (k : ℕ) → k ≡ frameRefusal (r .n) (r .cap) s → (k ≡ 0 → ⊥)
+    → k ≡ recordRefusal r q short (takeRefusal r s q)
+take-frame r s q short p k e h = sym (record-past r q short _ p ∙ rw (← e, ne-eqb k 0 h))
 
-pub offer-frame : (r : Record) (s q : List ℕ) → RecordPassed r q false → (k : ℕ) → k ≡ frameRefusal (r .n) (r .cap) s → (k ≡ 0 → ⊥) → k ≡ offerRefusal r s q
-unfolding offerRefusal
-offer-frame r s q p k e h = sym (record-past r q false _ p ∙ rw (← e, ne-eqb k 0 h))
+pub take-hold : (r : Record) (s q : List ℕ) (short : Bool) → RecordPassed r q short → frameRefusal (r .n) (r .cap) s ≡ 0
+    → recordRefusal r q short (takeRefusal r s q) ≡ holdRefusal (nodeAt r q) (decode s)
+take-hold r s q short p e = record-past r q short _ p ∙ rw e
 
-pub offer-hold : (r : Record) (s q : List ℕ) → RecordPassed r q false → frameRefusal (r .n) (r .cap) s ≡ 0
-    → offerRefusal r s q ≡ holdRefusal (nodeAt r q) (decode s)
+-- where nothing else that is lent is too short it is the offer's
+pub take-offer : (r : Record) (s q : List ℕ) → recordRefusal r q false (takeRefusal r s q) ≡ offerRefusal r s q
 unfolding offerRefusal
-offer-hold r s q p e = record-past r q false _ p ∙ rw e
+take-offer r s q = refl
 
 -- the protocol's checks of an offer, one after the other
 module _ (d : Node) (m : Message) where
@@ -203,6 +203,6 @@ offerable r s q e = go (ℕ-discrete (frameRefusal (r .n) (r .cap) s) 0)
 
     go : Dec (frameRefusal (r .n) (r .cap) s ≡ 0) → Offerable r s q
     go (yes z) =
-        let h : holdRefusal (nodeAt r q) (decode s) ≡ 0 = sym (offer-hold r s q p z) ∙ e in
+        let h : holdRefusal (nodeAt r q) (decode s) ≡ 0 = sym (take-hold r s q false p z) ∙ e in
         record { frame = z; hold = hold-passed (nodeAt r q) (decode s) h; holdable = holdable r s q p z h }
-    go (no z) = absurd (z (offer-frame r s q p (frameRefusal (r .n) (r .cap) s) refl z ∙ e))
+    go (no z) = absurd (z (take-frame r s q false p (frameRefusal (r .n) (r .cap) s) refl z ∙ e))

@@ -1,4 +1,4 @@
-//! Deliver.
+//! Deliver: its checks and what it does over lent arrays, and the call on a record.
 use super::DeliverAnswer;
 use super::Delivered;
 use super::Delivery;
@@ -6,8 +6,8 @@ use super::Node;
 use super::checks::record_refusal;
 use trim::Issued;
 ghost use mathlib.Core.Path.{_≡_};
-ghost use mathlib.Core.List.{[]};
-ghost use Prim.Native.Nat.{ℕ, _≤_, _<_};
+ghost use mathlib.Core.List.{List, []};
+ghost use Prim.Native.Nat.{ℕ, _-_, _≤_, _<_};
 ghost use lib.ListN.{length};
 ghost use Rattle.wire.specs.Bytes.{put};
 ghost use Rattle.wire.specs.Limits.{maxBody, maxCount};
@@ -22,10 +22,11 @@ ghost use Rattle.arrival.specs.CheckedFrame.{CheckedFrame};
 ghost use Rattle.arrival.specs.View.{nodeWith};
 ghost use Rattle.node.specs.Answers.{afterDeliver};
 ghost use Rattle.node.specs.Calls.{deliverCall};
-ghost use Rattle.node.specs.CallRefusals.{deliverRefusal, shortOutputs};
+ghost use Rattle.node.specs.CallRefusals.{deliverRefusal, shortOutputs, Finds, FindsAt};
+ghost use Rattle.node.specs.declared.DeliverAnswer.the-variants.{Frame as frame};
 
-// Whether the frame output or the body output is too short.
-fn short_outputs(out: usize, body: usize) -> bool
+/// Whether the frame output or the body output is too short.
+pub fn short_outputs(out: usize, body: usize) -> bool
     ensures { λ r. ⌜ r ≡ shortOutputs out body ⌝ }
 {
     if out < Node::OUT_SIZE {
@@ -34,8 +35,8 @@ fn short_outputs(out: usize, body: usize) -> bool
     body < wire::MAX_BODY
 }
 
-// The refusal of a deliver: the first check that is met, and 0 where none is.
-fn refusal<'a>(
+/// The refusal of a deliver: the first check that is met, and 0 where none is.
+pub fn refusal<'a>(
     me: u8,
     n: u8,
     cap: u8,
@@ -73,8 +74,8 @@ fn learn(m: &mut [u32; 144], out: &mut [u8], s: &[u8], kind: u8, me: u8, n: u8, 
     trim::trim(m, out, 0, me, n, cap)
 }
 
-// One more frame of node `from` is delivered.
-fn count_up(deliv: &mut [u32; 12], from: usize)
+/// One more frame of node `from` is delivered.
+pub fn count_up(deliv: &mut [u32; 12], from: usize)
     requires { ⌜ (length (now deliv) ≡ 12) × (from < 12) × (vector (now deliv) from ≤ maxCount) ⌝ }
     ensures { λ _. ⌜ now (deliv .exit) ≡ listFrom 0 12 (countUp from (vector (now (deliv .entry)))) ⌝ }
 {
@@ -124,6 +125,46 @@ fn take_in(
     }
 }
 
+/// What a deliver does that meets no check and finds a deliverable frame at this place, counted from 1:
+/// takes the frame out of the queue, writes its body into `body` and trim's extra frames into `out`, and takes in its entries.
+/// One more frame of its sender is then to be counted.
+pub fn take(
+    me: u8,
+    n: u8,
+    cap: u8,
+    m: &mut [u32; 144],
+    held: u8,
+    queue: &mut [u8],
+    place: usize,
+    out: &mut [u8],
+    body: &mut [u8],
+) -> Delivered
+    requires { ⌜ FindsAt me n cap (now m) held (now queue) (length (now out)) (length (now body)) place ⌝ }
+    ensures { λ r. ⌜ (r .from < 12) × (length (now (m .exit)) ≡ 144) × ((v : List ℕ)
+        → Finds (record { me = me; n = n; cap = cap; m = now (m .entry); deliv = v; held = held })
+        (now (queue .entry)) (length (now (out .entry))) (length (now (body .entry))) place
+        → afterDeliver (record {
+          answer = frame r;
+          node = record {
+            me = me;
+            n = n;
+            cap = cap;
+            m = now (m .exit);
+            deliv = listFrom 0 12 (countUp (r .from) (vector v));
+            held = held - 1;
+          };
+        }) (now (queue .exit)) (now (out .exit)) (now (body .exit))
+        ≡ deliverCall (record { me = me; n = n; cap = cap; m = now (m .entry); deliv = v; held = held })
+        (now (queue .entry)) (now (out .entry)) (now (body .entry))) ⌝ }
+{
+    let at = place - 1;
+    let a = wire::MAX_FRAME * at;
+    let z = holdback::frame_end(queue, at);
+    let d = take_in(&queue[a..z], place, m, out, body, me, n, cap);
+    holdback::remove(queue, held as usize, at);
+    d
+}
+
 impl Node {
     /// Delivers the first held frame that is deliverable:
     /// takes it out of the queue, writes its body into `body` and trim's extra frames into `out`, and gives the new record.
@@ -134,25 +175,21 @@ impl Node {
         let me = self.me;
         let n = self.n;
         let cap = self.cap;
-        let held = self.held as usize;
+        let held = self.held;
         let short = short_outputs(out.len(), body.len());
-        let why = refusal(me, n, cap, &self.m, &self.deliv, self.held, queue, short);
+        let why = refusal(me, n, cap, &self.m, &self.deliv, held, queue, short);
         if why != 0 {
             let answer = DeliverAnswer::Refused(why);
             return Delivery { answer, node: self };
         }
-        let place = holdback::search(queue, held, me, &self.deliv);
+        let place = holdback::search(queue, held as usize, me, &self.deliv);
         if place == 0 {
-            let answer = DeliverAnswer::Nothing(held);
+            let answer = DeliverAnswer::Nothing(held as usize);
             return Delivery { answer, node: self };
         }
-        let at = place - 1;
-        let a = wire::MAX_FRAME * at;
-        let z = holdback::frame_end(queue, at);
-        let d = take_in(&queue[a..z], place, &mut self.m, out, body, me, n, cap);
+        let d = take(me, n, cap, &mut self.m, held, queue, place, out, body);
         count_up(&mut self.deliv, d.from as usize);
-        holdback::remove(queue, held, at);
-        self.held = (held - 1) as u8;
+        self.held = held - 1;
         let answer = DeliverAnswer::Frame(d);
         Delivery { answer, node: self }
     }

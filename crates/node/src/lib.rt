@@ -1,8 +1,9 @@
-//! The causal node: its record, set-up, send, offer and deliver. The record goes into each call by value and comes back with its answer.
+//! The causal node: its record, set-up, send, offer and deliver. The record goes into each call by value and comes back with its answer;
+//! `send`, `offer` and `deliver` have what a call does over lent arrays and numbers, for callers that keep the record in another form.
 mod checks;
-mod deliver;
-mod offer;
-mod send;
+pub mod deliver;
+pub mod offer;
+pub mod send;
 mod set_up;
 
 /// The node's record: me, n and cap; the matrix, row by row; the vector of deliveries; and the number of held frames.

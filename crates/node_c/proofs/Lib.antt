@@ -1,5 +1,0 @@
--- Laws that the proofs of this crate cite.
-pub mod Numbers
-pub mod Images
-pub mod Told
-pub mod TrailTold
