@@ -51,7 +51,7 @@ module _ (s : List ℕ) (c : CheckedFrame s) where
       go (yes e) = e
       go (no e) = let k = inside-entry-of x y e in absurd (h (k .row) (k .column))
 
-  entries-limit : (x y : ℕ) → decode s .entries x y ≤ maxCount
+  pub entries-limit : (x y : ℕ) → decode s .entries x y ≤ maxCount
   entries-limit x y = go (ℕ-discrete (entries x y) 0)
     where
       go : Dec (entries x y ≡ 0) → entries x y ≤ maxCount

@@ -1,5 +1,5 @@
 -- What the answer of a call tells of what the call left: the frames that it wrote, and that its numbers are small. Assumes nothing.
-use Prim.Native.Nat.{ℕ, _+_, _-_, _≤_}
+use Prim.Native.Nat.{ℕ, suc, _+_, _-_, _≤_, _<_}
 use mathlib.Core.List.{List, [], _∷_}
 use mathlib.Core.Path.{_≡_, refl, subst, sym}
 use native.Mathlib.Decide.{ℕ-discrete}
@@ -7,7 +7,7 @@ use native.Mathlib.Omega.{arith}
 use lib.ListN.{length, length-append}
 use Rattle.wire.proofs.Bytes.{length-put}
 use Rattle.wire.specs.Bytes.{put}
-use Rattle.wire.specs.Limits.{maxBody}
+use Rattle.wire.specs.Limits.{maxBody, maxCount}
 use Rattle.matrix.specs.Array.{entry}
 use Rattle.matrix.specs.Matrix.{Matrix, clear, merge}
 use Rattle.matrix.specs.Message.{Kind, user, extra, Message, userMessage}
@@ -15,7 +15,7 @@ use Rattle.frame.proofs.Frames.{frames-nil, length-frames}
 use Rattle.frame.proofs.Written.{length-encode}
 use Rattle.frame.specs.Frame.{decode}
 use Rattle.frame.specs.Frames.{framesOf}
-use Rattle.frame.specs.Header.{header}
+use Rattle.frame.specs.Header.{header, kindByte}
 use Rattle.arrival.specs.CheckedFrame.{CheckedFrame}
 use Rattle.holdback.proofs.Parts.{queue-frame}
 use Rattle.holdback.proofs.Queues.{found-held}
@@ -32,7 +32,7 @@ use Rattle.trim.proofs.Bounds.{trim-1008}
 use Rattle.node.proofs.Sending.{frame-room, send-accepted, send-refused, sendable}
 use Rattle.node.proofs.Offering.{length-messages, offer-accepted, offer-refused, offerable}
 use Rattle.node.proofs.Delivering.{Ready, deliver-accepted, deliver-ready, deliver-refused, searched}
-use Rattle.node.proofs.Taking.{bodied}
+use Rattle.node.proofs.Taking.{bodied, entries-limit, from-below}
 use Rattle.node.specs.Answers.{AfterSend, AfterOffer, AfterDeliver}
 use Rattle.node.specs.Calls.{acceptDeliver, deliverCall, offerCall, sendCall}
 use Rattle.node.specs.CallRefusals.{deliverRefusal, offerRefusal, sendRefusal, shortOutputs}
@@ -128,7 +128,12 @@ body-small : (s : List ℕ) → CheckedFrame s → length (decode s .body) ≤ m
 unfolding decode
 body-small s c = let b = bodied s (header s) c refl in omega (arith, b .size, b .short)
 
--- a delivery: what it issued
+-- the byte of a kind
+kind-byte : (k : Kind) → (0 < kindByte k) × (kindByte k ≤ 2)
+kind-byte user = (omega arith, omega arith)
+kind-byte extra = (omega arith, omega arith)
+
+-- a delivery: what it issued, and how large the numbers are that it names
 pub record DeliveredFacts (out o : List ℕ) (d : Delivered) : Type 0 where
   pub issued : List Message
   pub wrote : Wrote out o (d .bytes) issued
@@ -137,6 +142,9 @@ pub record DeliveredFacts (out o : List ℕ) (d : Delivered) : Type 0 where
   pub most : d .bytes ≤ 1008
   pub body : d .body ≤ maxBody
   pub tried : d .tried ≤ 16
+  pub kind : (0 < d .kind) × (d .kind ≤ 2)
+  pub from : d .from < 12
+  pub number : d .number ≤ suc maxCount
 
 -- what a deliver leaves in record, queue and output, by its answer
 abbrev pub DeliverTold : Record → List ℕ → List ℕ → DeliverAnswer → AfterDeliver → Type 0
@@ -165,6 +173,7 @@ module _ (r : Record) (q out body : List ℕ) where
       go (no p) =
           let j : ℕ = placeOf (searched r q) - 1 in
           let x = found-held (deliverable (nodeAt r q)) (r .held) q j (omega arith) in
+          let sound = queue-frame (r .held) q (k .queue) j (x .0) in
           let g : Message = decode (frameAt q j) in
           let l : List Message = learn (g .kind) (nodeAt r q) (g .entries) .extras in
           let most : length (framesOf l) ≤ 1008 = learn-room (g .kind) (nodeAt r q) (g .entries) in
@@ -175,8 +184,11 @@ module _ (r : Record) (q out body : List ℕ) where
             many = refl;
             few = learn-few (g .kind) (nodeAt r q) (g .entries);
             most = most;
-            body = body-small (frameAt q j) (queue-frame (r .held) q (k .queue) j (x .0));
+            body = body-small (frameAt q j) sound;
             tried = omega (arith, x .0, k .sound .room);
+            kind = kind-byte (g .kind);
+            from = from-below (frameAt q j) sound;
+            number = omega (arith, entries-limit (frameAt q j) sound (g .from) (g .to));
           }
 
   pub deliver-told : DeliverTold r q out (deliverCall r q out body .result .answer) (deliverCall r q out body)
