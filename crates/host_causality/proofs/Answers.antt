@@ -1,18 +1,23 @@
 -- The bytes of an answer read back as what was written. Assumes nothing.
-use Prim.Native.Nat.{_+_, _<_, _≤_, ℕ}
+use Prim.Native.Nat.{_<_, _≤_, ℕ}
 use mathlib.Core.List.{List, _++_}
+use mathlib.Core.Option.{some}
 use mathlib.Core.Path.{_∙_, _≡_, ap, ap₂, refl, subst, sym}
 use native.Mathlib.Omega.{arith}
 use lib.Dec.{eqb}
 use lib.ListN.{drop, length}
 use Rattle.wire.proofs.Bytes.{four-bytes, put-eq, two-bytes}
-use Rattle.wire.proofs.Tests.{cond-no, cond-yes, eq→eqb, ne→neqb}
+use Rattle.wire.proofs.Tests.{cond-elim, cond-no, cond-yes, eq→eqb, ne→neqb}
 use Rattle.wire.specs.Bytes.{le16, le32, put, u16At, u32At}
 use Rattle.host.specs.Exports.{answerBytes, answerSize, deliveryBytes, nothingBytes, offerBytes, sendBytes}
 use Rattle.node.specs.declared.Delivered.{Delivered}
+use Rattle.node.specs.Answers.{deliverNumber}
+use Rattle.node.specs.declared.DeliverAnswer.{DeliverAnswer}
 use Rattle.node.specs.declared.SendAnswer.the-variants as send
 use Rattle.node.specs.declared.DeliverAnswer.the-variants as deliver
-use Rattle.host_causality.specs.HostDemand3.{bodyIn, bytesIn, extrasIn, deliveredIn, fromIn, kindIn, numberIn, readDelivery, readSend, triedIn}
+use Rattle.causality.specs.Demand3.{Label, delivered, delivery}
+use Rattle.host_causality.specs.HostDemand3.{bodyIn, bytesIn, deliveredIn, extrasIn, fromIn, kindIn, labelIn, numberIn}
+use Rattle.host_causality.specs.HostDemand3.{readDeliver, readDelivery, readSend, triedIn}
 
 -- what the bytes a name
 pub record Reads (a : List ℕ) (kind from number tried body extras bytes : ℕ) : Type 0 where
@@ -73,3 +78,17 @@ module _ (a : List ℕ) (long : answerSize ≤ length a) where
             }),
         x .issued,
       )
+
+-- ---- what a delivery's answer names
+
+pub read-label : (k : ℕ) (b : List ℕ) (a : DeliverAnswer) (l : Label) → k ≡ deliverNumber a → delivered (readDeliver k b) ≡ delivered a
+    → delivery (delivered a) ≡ some l → (k ≡ 0) × (labelIn b ≡ l)
+read-label k b (deliver.Refused n) l status reads names = let z : _≡_ {A = ℕ} 0 1 = cc in absurd (omega arith)
+read-label k b (deliver.Nothing tried) l status reads names = let z : _≡_ {A = ℕ} 0 1 = cc in absurd (omega arith)
+read-label k b (deliver.Frame d) l status reads names =
+    (status, named (ap delivery (ap (λ (x : ℕ). delivered (readDeliver x b)) (sym status) ∙ reads) ∙ names))
+  where
+    named : delivery (delivered (readDelivery b)) ≡ some l → labelIn b ≡ l
+    named =
+        cond-elim (λ (x : DeliverAnswer). delivery (delivered x) ≡ some l → labelIn b ≡ l) (eqb (kindIn b) 0) (deliver.Nothing (triedIn b))
+        (deliver.Frame (deliveredIn b)) (λ _ e. let z : _≡_ {A = ℕ} 0 1 = cc in absurd (omega arith)) (λ _ e. cc)

@@ -26,11 +26,14 @@ use Rattle.host.specs.Image.{SoundRecord}
 
 pub send-cases : (P : AfterSend → Type 0) (r : Record) (to : ℕ) (body out : List ℕ) → ((k : ℕ) → (k ≡ 0 → ⊥) → P (refuseSend k r out))
     → ((o : Outcome) → P (acceptSend r out o)) → P (sendCall r to body out)
-send-cases P r to body out refused accepted = go (ℕ-discrete (sendRefusal r to (length body) (length out)) 0)
+send-cases P r to body out refused accepted = go (ℕ-discrete k 0)
   where
-    go : Dec (sendRefusal r to (length body) (length out) ≡ 0) → P (sendCall r to body out)
+    k : ℕ
+    k = sendRefusal r to (length body) (length out)
+
+    go : Dec (k ≡ 0) → P (sendCall r to body out)
     go (yes z) = subst P (send-accepted r to body out z) (accepted (sending (nodeOf r []) to body))
-    go (no h) = subst P (send-refused r to body out (sendRefusal r to (length body) (length out)) refl h) (refused (sendRefusal r to (length body) (length out)) h)
+    go (no h) = subst P (send-refused r to body out k refl h) (refused k h)
 
 pub offer-cases : (P : AfterOffer → Type 0) (r : Record) (s q : List ℕ) → ((k : ℕ) → (k ≡ 0 → ⊥) → P (refuseOffer k r q))
     → ((o : Outcome) → P (acceptOffer r s q o)) → P (offerCall r s q)

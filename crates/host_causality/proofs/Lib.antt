@@ -4,3 +4,7 @@ pub mod Calls
 pub mod Shown
 pub mod Strays
 pub mod Sees
+pub mod Starts
+pub mod Forgotten
+pub mod Seen
+pub mod HostDemand3

@@ -10,18 +10,17 @@ use lib.Dec.{T, ltb, ltb→lt}
 use lib.ListN.{getElem?, length, length-map, take}
 use Rattle.protocol.proofs.Below.{update-other, update-same}
 use Rattle.protocol.specs.Node.{update}
-use Rattle.node.specs.Answers.{AfterDeliver, AfterOffer, AfterSend}
 use Rattle.node.specs.Calls.{deliverCall, offerCall, sendCall}
 use Rattle.node.specs.Record.{brokenRecord}
 use Rattle.node.specs.declared.Node.{Node as Record}
-use Rattle.causality.specs.Demand3.{Answer, Event, Issue, Step, World, afterCall, bytesIssued, deliverAt, delivers, framesIn, issuedBy, offerAt, offerIssue}
+use Rattle.causality.specs.Demand3.{Answer, Event, Issue, Step, World, afterCall, deliverAt, delivers, framesIn, issuedBy, offerAt, offerIssue}
 use Rattle.causality.specs.Demand3.{offered, offers, run, sendAt, sends, sent, delivered, step}
 use Rattle.host.specs.Exports.{answerSize, exportedDeliver, exportedOffer, exportedSend}
 use Rattle.host.specs.Image.{SoundRecord, image}
 use Rattle.host_causality.proofs.Calls.{SoundNode, deliver-keeps, offer-keeps, send-keeps, sound-record}
 use Rattle.host_causality.proofs.Shown.{Shows, deliver-shown, forgetAnswer, offer-shown, send-shown}
 use Rattle.host_causality.proofs.Strays.{stray-leaves}
-use Rattle.host_causality.specs.HostDemand3.{Call, EachAllowed, HostEvent, HostWorld, Stray, afterMade, afterStray, bytesTold, call, deliverMade}
+use Rattle.host_causality.specs.HostDemand3.{Call, EachAllowed, HostWorld, Stray, afterMade, afterStray, deliverMade}
 use Rattle.host_causality.specs.HostDemand3.{hostRun, issueMade, made, madeStep, offerMade, seenEvent, sendMade, stepsOf, stray, strayLeft}
 
 abbrev pub forgetEvent : Event → Event
@@ -78,43 +77,50 @@ module _ (n : ℕ) (h : HostWorld) (w : World) (m : Sees n h w) where
     abbrev sound : SoundRecord r
     sound = sound-record r (w .queues i) (m .nodes i hi)
 
-    send-sees : (to : ℕ) (body out : List ℕ)
-        → Sees n (sendMade h i (sends i to body out) (exportedSend (h .images i) to body out answer)) (sendAt w i (sends i to body out) (sendCall r to body out))
+    -- the world after each exported call, lent the image x and the queue y
+    abbrev Sent : (to : ℕ) (body out x : List ℕ) → Type 0
+    Sent to body out x =
+        Sees n (sendMade h i (sends i to body out) (exportedSend x to body out answer)) (sendAt w i (sends i to body out) (sendCall r to body out))
+
+    abbrev Offered : ℕ → Issue → (x y : List ℕ) → Type 0
+    Offered p g x y =
+        Sees n (offerMade h i (offers i p) (exportedOffer x (g .frame) y answer)) (offerAt w i (offers i p) (offerCall r (g .frame) (w .queues i)))
+
+    abbrev Given : (out body x y : List ℕ) → Type 0
+    Given out body x y =
+        Sees n (deliverMade h i (delivers i out body) (exportedDeliver x y out body answer))
+        (deliverAt w i (delivers i out body) (deliverCall r (w .queues i) out body))
+
+    -- lent the node's own
+    own : (P : List ℕ → List ℕ → Type 0) → P (image r) (w .queues i) → P (h .images i) (h .queues i)
+    own P p = subst (λ (x : List ℕ). P x (h .queues i)) (sym (m .images i hi)) (subst (P (image r)) (sym (m .queues i)) p)
+
+    send-sees : (to : ℕ) (body out : List ℕ) → Sent to body out (h .images i)
     send-sees to body out =
-        subst (λ (x : List ℕ). Sees n (sendMade h i (sends i to body out) (exportedSend x to body out answer))
-        (sendAt w i (sends i to body out) (sendCall r to body out))) (sym (m .images i hi))
+        own (λ x _. Sent to body out x)
         (let c = sendCall r to body out in
         let e = exportedSend (image r) to body out answer in
-        let y = send-shown r sound answer long i to body out in
+        let s = send-shown r sound answer long i to body out in
         after i hi (sends i to body out) (sent (c .result .answer)) (c .result .node) (w .queues i) (c .out) (e .status) (e .image) (h .queues i)
-        (e .answer) (e .out) (send-keeps r (w .queues i) (m .nodes i hi) to body out) (y .0) (m .queues i) (y .1))
+        (e .answer) (e .out) (send-keeps r (w .queues i) (m .nodes i hi) to body out) (s .0) (m .queues i) (s .1))
 
-    offer-sees : (p : ℕ) (g : Issue) → Sees n (offerMade h i (offers i p) (exportedOffer (h .images i) (g .frame) (h .queues i) answer))
-        (offerAt w i (offers i p) (offerCall r (g .frame) (w .queues i)))
+    offer-sees : (p : ℕ) (g : Issue) → Offered p g (h .images i) (h .queues i)
     offer-sees p g =
-        subst (λ (x : List ℕ). Sees n (offerMade h i (offers i p) (exportedOffer x (g .frame) (h .queues i) answer))
-        (offerAt w i (offers i p) (offerCall r (g .frame) (w .queues i)))) (sym (m .images i hi))
-        (subst (λ (x : List ℕ). Sees n (offerMade h i (offers i p) (exportedOffer (image r) (g .frame) x answer))
-        (offerAt w i (offers i p) (offerCall r (g .frame) (w .queues i)))) (sym (m .queues i))
+        own (Offered p g)
         (let c = offerCall r (g .frame) (w .queues i) in
         let e = exportedOffer (image r) (g .frame) (w .queues i) answer in
-        let y = offer-shown r sound answer long i p (g .frame) (w .queues i) in
+        let s = offer-shown r sound answer long i p (g .frame) (w .queues i) in
         after i hi (offers i p) (offered (c .result .answer)) (c .result .node) (c .queue) [] (e .status) (e .image) (e .queue)
-        (e .answer) [] (offer-keeps r (w .queues i) (m .nodes i hi) (g .frame)) (y .0) (y .1) refl))
+        (e .answer) [] (offer-keeps r (w .queues i) (m .nodes i hi) (g .frame)) (s .0) (s .1) refl)
 
-    deliver-sees : (out body : List ℕ)
-        → Sees n (deliverMade h i (delivers i out body) (exportedDeliver (h .images i) (h .queues i) out body answer))
-        (deliverAt w i (delivers i out body) (deliverCall r (w .queues i) out body))
+    deliver-sees : (out body : List ℕ) → Given out body (h .images i) (h .queues i)
     deliver-sees out body =
-        subst (λ (x : List ℕ). Sees n (deliverMade h i (delivers i out body) (exportedDeliver x (h .queues i) out body answer))
-        (deliverAt w i (delivers i out body) (deliverCall r (w .queues i) out body))) (sym (m .images i hi))
-        (subst (λ (x : List ℕ). Sees n (deliverMade h i (delivers i out body) (exportedDeliver (image r) x out body answer))
-        (deliverAt w i (delivers i out body) (deliverCall r (w .queues i) out body))) (sym (m .queues i))
+        own (Given out body)
         (let c = deliverCall r (w .queues i) out body in
         let e = exportedDeliver (image r) (w .queues i) out body answer in
-        let y = deliver-shown r sound answer long i (w .queues i) out body in
+        let s = deliver-shown r sound answer long i (w .queues i) out body in
         after i hi (delivers i out body) (delivered (c .result .answer)) (c .result .node) (c .queue) (c .out) (e .status) (e .image) (e .queue)
-        (e .answer) (e .out) (deliver-keeps r (w .queues i) (m .nodes i hi) out body) (y .0) (y .1) (y .2)))
+        (e .answer) (e .out) (deliver-keeps r (w .queues i) (m .nodes i hi) out body) (s .0) (s .1) (s .2))
 
   -- where a test decides over a step
   both : (t : Bool) (x : HostWorld) (y : World) → (T t → Sees n x y) → Sees n (cond t x h) (cond t y w)

@@ -1,34 +1,32 @@
 -- An exported call on the image of a sound node shows the host what the node's call answers and leaves. Assumes nothing.
 use Prim.Native.Nat.{_-_, _≤_, ℕ}
-use mathlib.Core.Bool.{Bool, cond, false}
-use mathlib.Core.List.{List, []}
+use mathlib.Core.Bool.{cond, false}
+use mathlib.Core.List.{List}
 use mathlib.Core.Option.{Option, none, some}
-use mathlib.Core.Path.{_∙_, _≡_, ap, ap₂, refl, subst, sym}
+use mathlib.Core.Path.{_∙_, _≡_, ap, refl, subst, sym}
 use native.Mathlib.Omega.{arith}
 use lib.Dec.{eqb, ltb}
 use lib.ListN.{length}
-use Rattle.wire.proofs.Tests.{cond-no, cond-yes, eq→eqb, le→nltb, ne→neqb, of-false}
-use Rattle.wire.specs.Bytes.{put}
+use Rattle.wire.proofs.Tests.{cond-no, le→nltb, ne→neqb, of-false}
 use Rattle.frame.specs.Frames.{framesOf}
 use Rattle.frame.specs.Header.{kindByte}
 use Rattle.protocol.specs.Answer.{Label, Outcome, issued}
-use Rattle.node.proofs.Told.{DeliverTold, DeliveredFacts, SendTold, SentFacts, deliver-told, send-told}
+use Rattle.node.proofs.Told.{DeliverTold, SendTold, deliver-told, send-told}
 use Rattle.node.specs.Answers.{AfterDeliver, AfterOffer, AfterSend}
 use Rattle.node.specs.Calls.{acceptDeliver, acceptSend, deliverCall, offerCall, sendCall, bodyOf, triedBy}
 use Rattle.node.specs.declared.Delivered.{Delivered}
-use Rattle.node.specs.declared.DeliverAnswer.{DeliverAnswer}
 use Rattle.node.specs.declared.Node.{Node as Record}
 use Rattle.node.specs.declared.SendAnswer.the-variants as send
 use Rattle.node.specs.declared.OfferAnswer.the-variants as offer
 use Rattle.node.specs.declared.DeliverAnswer.the-variants as deliver
 use Rattle.causality.specs.Demand3.{Answer, Step, bytesIssued, delivered, delivers, offered, offers, refusal, sends, sent}
 use Rattle.host.proofs.Images.{imageLaws}
-use Rattle.host.specs.Exports.{DeliverLeft, OfferLeft, SendLeft, answerSize, deliverTold, deliveryBytes, deliverLeft, exportedDeliver, exportedOffer}
-use Rattle.host.specs.Exports.{exportedSend, nothingBytes, offerBytes, offerLeft, offerTold, sendBytes, sendLeft, sendTold}
+use Rattle.host.specs.Exports.{DeliverLeft, OfferLeft, SendLeft, answerSize, deliverTold, deliverLeft, exportedDeliver, exportedOffer}
+use Rattle.host.specs.Exports.{exportedSend, offerLeft, offerTold, sendLeft, sendTold}
 use Rattle.host.specs.Image.{SoundRecord, badImage, image, recordIn}
 use Rattle.host_causality.proofs.Answers.{read-delivery, read-nothing, read-offered, read-sent}
 use Rattle.host_causality.proofs.Calls.{deliver-cases, offer-cases, send-cases}
-use Rattle.host_causality.specs.HostDemand3.{bytesIn, bytesTold, extrasIn, kindIn, readAnswer, readDelivery, triedIn}
+use Rattle.host_causality.specs.HostDemand3.{bytesTold, readAnswer}
 
 -- an answer without what an accepted offer does not tell the host: how many are held, and whether the frame was deliverable
 abbrev pub forgetAnswer : Answer → Answer
@@ -68,13 +66,16 @@ module _ (r : Record) (h : SoundRecord r) (answer : List ℕ) (long : answerSize
     abbrev SendShown : AfterSend → SendLeft → Type 0
     SendShown c e = Shows (sends i to body out) (sent (c .result .answer)) (c .result .node) (e .status) (e .image) (e .answer) × (e .out ≡ c .out)
 
-    send-told-shown : let c = sendCall r to body out in SendShown c (sendTold (image r) answer c (c .result .answer))
+    abbrev SendToldShown : AfterSend → Type 0
+    SendToldShown c = SendShown c (sendTold (image r) answer c (c .result .answer))
+
+    send-told-shown : SendToldShown (sendCall r to body out)
     send-told-shown =
-        send-cases (λ (c : AfterSend). SendTold out (c .result .answer) c → SendShown c (sendTold (image r) answer c (c .result .answer))) r to body out
+        send-cases (λ (c : AfterSend). SendTold out (c .result .answer) c → SendToldShown c) r to body out
         (λ k z _. (record { status = refl; image = refl; reads = ap sent (no-answer k _ (send.Refused k) z); counts = no-answer k _ 0 z }, refl))
         accepted (send-told r to body out)
       where
-        accepted : (o : Outcome) → (let c = acceptSend r out o in SendTold out (c .result .answer) c → SendShown c (sendTold (image r) answer c (c .result .answer)))
+        accepted : (o : Outcome) → (let c = acceptSend r out o in SendTold out (c .result .answer) c → SendToldShown c)
         accepted o t =
             let l = issued (o .answer) in
             let x = read-sent answer long (length (framesOf l)) (length l - 1) (omega (arith, t .most)) in
@@ -96,9 +97,12 @@ module _ (r : Record) (h : SoundRecord r) (answer : List ℕ) (long : answerSize
     abbrev OfferShown : AfterOffer → OfferLeft → Type 0
     OfferShown c e = Shows (offers i p) (offered (c .result .answer)) (c .result .node) (e .status) (e .image) (e .answer) × (e .queue ≡ c .queue)
 
-    offer-told-shown : let c = offerCall r frame queue in OfferShown c (offerTold (image r) answer c (c .result .answer))
+    abbrev OfferToldShown : AfterOffer → Type 0
+    OfferToldShown c = OfferShown c (offerTold (image r) answer c (c .result .answer))
+
+    offer-told-shown : OfferToldShown (offerCall r frame queue)
     offer-told-shown =
-        offer-cases (λ (c : AfterOffer). OfferShown c (offerTold (image r) answer c (c .result .answer))) r frame queue
+        offer-cases OfferToldShown r frame queue
         (λ k z. (record { status = refl; image = refl; reads = ap offered (no-answer k _ (offer.Refused k) z); counts = no-answer k _ 0 z }, refl))
         (λ o. (
           record { status = refl; image = refl; reads = refl; counts = read-offered answer long },
@@ -137,15 +141,17 @@ module _ (r : Record) (h : SoundRecord r) (answer : List ℕ) (long : answerSize
           extras = length (issued (o .answer));
         }
 
-    deliver-told-shown : let c = deliverCall r queue out body in DeliverShown c (deliverTold (image r) answer c (c .result .answer))
+    abbrev DeliverToldShown : AfterDeliver → Type 0
+    DeliverToldShown c = DeliverShown c (deliverTold (image r) answer c (c .result .answer))
+
+    deliver-told-shown : DeliverToldShown (deliverCall r queue out body)
     deliver-told-shown =
-        deliver-cases (λ (c : AfterDeliver). DeliverTold r queue out (c .result .answer) c → DeliverShown c (deliverTold (image r) answer c (c .result .answer)))
-        r queue out body
+        deliver-cases (λ (c : AfterDeliver). DeliverTold r queue out (c .result .answer) c → DeliverToldShown c) r queue out body
         (λ k z _. (record { status = refl; image = refl; reads = ap delivered (no-answer k _ (deliver.Refused k) z); counts = no-answer k _ 0 z }, refl, refl))
         accepted (deliver-told r queue out body)
       where
         accepted : (o : Outcome) (a : Option Label) → (let c = acceptDeliver r queue out body o a in
-            DeliverTold r queue out (c .result .answer) c → DeliverShown c (deliverTold (image r) answer c (c .result .answer)))
+            DeliverTold r queue out (c .result .answer) c → DeliverToldShown c)
         accepted o none t =
             let x = read-nothing answer long (triedBy (o .answer)) in
             (record { status = refl; image = refl; reads = ap delivered (x .0); counts = x .1 }, refl, refl)
