@@ -161,7 +161,7 @@ story-before = rw (story-frames, story-events) before-report
 range : InRange 3 3
 range = record { atLeast2 = omega arith; atMost12 = omega arith; capFrom = omega arith; capTo = omega arith }
 
-story-bodies : BodiesOfBytes story
+pub story-bodies : BodiesOfBytes story
 unfolding story
 story-bodies = (small-bytes closing (omega arith), (small-bytes closed (omega arith), (small-bytes report (omega arith), tt)))
 

@@ -8,3 +8,4 @@ pub mod Starts
 pub mod Forgotten
 pub mod Seen
 pub mod HostDemand3
+pub mod Examples
