@@ -18,7 +18,7 @@ use Rattle.host_causality.proofs.HostDemand3.{hostDemand3}
 use Rattle.host_causality.proofs.Sees.{Sees, forgetEvent, run-sees}
 use Rattle.host_causality.proofs.Starts.{start-sees}
 use Rattle.host_causality.specs.HostDemand3.{Call, EachAllowed, HostDemand3For, HostKeeps, HostWorld, call, hostRun, hostStart, latest, made, other, seen}
-use Rattle.host_causality.specs.HostDemand3.{setsUp, stepsOf, stray, strayDeliver, straySend}
+use Rattle.host_causality.specs.HostDemand3.{straySetUp, stepsOf, stray, strayDeliver, straySend}
 
 -- images and answers are lent all zero
 abbrev lent : ℕ → List ℕ
@@ -36,7 +36,7 @@ steps (s ∷ l) r = made s answer ∷ steps l r
 -- an image of no bytes and the queue of node 1, 20
 abbrev strays : List Call → List Call
 strays r =
-    stray (setsUp (latest 2) 2 3 10)
+    stray (straySetUp (latest 2) 2 3 10)
     ∷ stray (straySend (latest 0) 1 [] [] (replicate 10 0))
     ∷ stray (strayDeliver (other []) (latest 1) [] [] answer)
     ∷ r
@@ -71,7 +71,7 @@ deliver-20 q = refl
 
 strays-allowed : (r : List Call) → Always r → Always (strays r)
 strays-allowed r a w =
-    let x : HostWorld = call 3 w (stray (setsUp (latest 2) 2 3 10)) in
+    let x : HostWorld = call 3 w (stray (straySetUp (latest 2) 2 3 10)) in
     let y : HostWorld = call 3 x (stray (straySend (latest 0) 1 [] [] (replicate 10 0))) in (
       λ z. omega (arith, set-up-1 (w .images 2)),
       (

@@ -24,7 +24,7 @@ use Rattle.node.specs.declared.DeliverAnswer.the-variants as deliver
 use Rattle.host.specs.Exports.{DeliverLeft, OfferLeft, SendLeft, SetUpLeft, answerSize, deliverLeft, deliverTold, exportedDeliver, exportedOffer}
 use Rattle.host.specs.Exports.{exportedSend, exportedSetUp, offerLeft, offerTold, sendLeft, sendTold, setUpLeft, setUpTold}
 use Rattle.host.specs.Image.{badImage, image, imageSize, recordIn}
-use Rattle.host_causality.specs.HostDemand3.{HostWorld, Lent, Stray, StrayLeft, latest, lentBytes, other, putBack, setsUp, strayDeliver, strayLeft}
+use Rattle.host_causality.specs.HostDemand3.{HostWorld, Lent, Stray, StrayLeft, latest, lentBytes, other, putBack, straySetUp, strayDeliver, strayLeft}
 use Rattle.host_causality.specs.HostDemand3.{strayOffer, straySend}
 
 -- ---- each exported call
@@ -107,7 +107,7 @@ pub record Leaves (w : HostWorld) (c : StrayLeft) : Type 0 where
   pub still : (k : ℕ) → c .queues k ≡ w .queues k
 
 pub stray-leaves : (w : HostWorld) (s : Stray) → ¬ (strayLeft w s .status ≡ 0) → Leaves w (strayLeft w s)
-stray-leaves w (setsUp i me n cap) h =
+stray-leaves w (straySetUp i me n cap) h =
     record { same = put-same (w .images) i _ (set-up-leaves (lentBytes (w .images) i) me n cap h); still = λ k. refl }
 stray-leaves w (straySend i to body out answer) h =
     record { same = put-same (w .images) i _ (send-leaves (lentBytes (w .images) i) to body out answer h); still = λ k. refl }

@@ -127,7 +127,7 @@ pub data Lent : Type 0 where
 
 -- set-up, send, offer or deliver with any numbers and any bytes
 pub data Stray : Type 0 where
-  setsUp : (image : Lent) (me n cap : ℕ) → Stray
+  straySetUp : (image : Lent) (me n cap : ℕ) → Stray
   straySend : (image : Lent) (to : ℕ) (body out answer : List ℕ) → Stray
   strayOffer : (image : Lent) (frame : List ℕ) (queue : Lent) (answer : List ℕ) → Stray
   strayDeliver : (image queue : Lent) (out body answer : List ℕ) → Stray
@@ -142,14 +142,14 @@ abbrev pub putBack : (ℕ → List ℕ) → Lent → List ℕ → ℕ → List �
 putBack v (latest i) left = update v i left
 putBack v (other s) left = v
 
--- what a stray call returns and leaves, in the image and in the queue; a set-up and a send are lent no queue
+-- what a stray call returns, and the images and queues after it; a set-up and a send are lent no queue
 pub record StrayLeft : Type 0 where
   pub status : ℕ
   pub images : ℕ → List ℕ
   pub queues : ℕ → List ℕ
 
 abbrev pub strayLeft : HostWorld → Stray → StrayLeft
-strayLeft w (setsUp i me n cap) =
+strayLeft w (straySetUp i me n cap) =
     let c = exportedSetUp (lentBytes (w .images) i) me n cap in
     record { status = c .status; images = putBack (w .images) i (c .image); queues = w .queues }
 strayLeft w (straySend i to body out answer) =
@@ -197,12 +197,12 @@ abbrev pub EachAllowed : ℕ → HostWorld → List Call → Type 0
 EachAllowed n w [] = Unit {0}
 EachAllowed n w (c ∷ l) = Allowed w c × EachAllowed n (call n w c) l
 
--- each node is set up once, on the bytes `lent me`, and has a queue of 12,832 zeros
+-- each node is set up once, on any bytes `lent me`, and has a queue of 12,832 zeros
 abbrev pub hostStart : (lent : ℕ → List ℕ) (n cap : ℕ) → HostWorld
 hostStart lent n cap = record { images = λ me. exportedSetUp (lent me) me n cap .image; queues = λ me. zeros queueSize; log = []; history = [] }
 
--- what a host must do: no set-up is refused, the bodies that it sends are made of bytes, fewer than 1,000,000,000 of its calls are steps,
--- and each call is allowed; stray calls may be any number
+-- what is asked of the host: no set-up is refused, the bodies that it sends are made of bytes, fewer than 1,000,000,000 of its calls are steps (there may be
+-- any number of stray calls), and each call is allowed
 pub record HostKeeps (n cap : ℕ) (lent : ℕ → List ℕ) (calls : List Call) : Type 0 where
   pub setUps : (me : ℕ) → me < n → exportedSetUp (lent me) me n cap .status ≡ 0
   pub bodies : BodiesOfBytes (stepsOf calls)
@@ -265,7 +265,7 @@ pub record HostDemand3For (n cap : ℕ) (w : HostWorld) : Type 0 where
   pub refusals : ListRefusalsFor (seen w)
   pub acceptedOnce : AcceptedOnceFor (seen w)
 
--- for every n from 2 to 12, every cap from n to n * n, and every list of calls of a host that does what it must
+-- for every n from 2 to 12, every cap from n to n * n, and every list of calls of a host that keeps what is asked of it
 abbrev pub HostDemand3 : Type 0
 HostDemand3 = (n cap : ℕ) → InRange n cap → (lent : ℕ → List ℕ) (calls : List Call) → HostKeeps n cap lent calls
     → HostDemand3For n cap (hostRun n (hostStart lent n cap) calls)
