@@ -22,6 +22,7 @@ use Rattle.node.specs.Calls.{acceptDeliver, acceptOffer, acceptSend, deliverCal
 use Rattle.node.specs.CallRefusals.{deliverRefusal, holdRefusal, offerRefusal, recordRefusal, sendRefusal}
 use Rattle.node.specs.Record.{nodeAt, brokenRecord, nodeOf}
 use Rattle.node.specs.SetUp.{freshRecord, setUp}
+use Rattle.host.specs.Image.{recordIn}
 use Rattle.protocol.specs.Answer.{Label, Outcome, delivery}
 use Rattle.protocol.specs.Node.{atLimit}
 use Rattle.protocol.specs.Offer.{holding}
@@ -36,7 +37,6 @@ use Rattle.trail.specs.Write.{AfterWrite, afterWrite, noRoomFor, writeCall, wri
 use Rattle.trail.specs.declared.walk.Cursor.{Cursor}
 use Rattle.trail.specs.declared.walk.StepAnswer.{StepAnswer}
 use Rattle.trail.specs.declared.walk.StepAnswer.the-variants as stepAnswer
-use Rattle.trail.specs.declared.walk.WalkAnswer.{WalkAnswer}
 use Rattle.trail.specs.declared.walk.WalkAnswer.the-variants as walkAnswer
 use Rattle.trail.specs.declared.write.WriteAnswer.the-variants as writeAnswer
 use Rattle.wire.specs.Bytes.{put}
@@ -52,9 +52,11 @@ use Rattle.request.specs.declared.Request.the-variants as asks
 use Rattle.sweep.proofs.Outputs.{answered-refused, answered-table, not-refusal}
 use Rattle.sweep.specs.Load as load
 use Rattle.sweep.specs.Run.{outputSize, runCall}
-use Rattle.refusals.proofs.First.{by-first, first-lowest, not-both}
-use Rattle.refusals.specs.Demand1.{Answers, DeliverSays, Demand1, First, LoadSays, OfferSays, SendSays, SetUpSays, StepSays, WalkSays, WriteSays}
-use Rattle.refusals.specs.Demand1.{deliverChecks, firstMet, loadChecks, offerChecks, sendChecks, setUpChecks, stepChecks, walkChecks, writeChecks}
+use Rattle.refusals.proofs.First.{by-first, first-lowest, not-both, turned}
+use Rattle.refusals.proofs.Host.{host-deliver-says, host-offer-says, host-send-says, host-set-up-says}
+use Rattle.refusals.specs.CallChecks.{deliverChecks, loadChecks, offerChecks, sendChecks, setUpChecks, stepChecks, walkChecks, writeChecks}
+use Rattle.refusals.specs.Checks.{Answers, First, firstMet}
+use Rattle.refusals.specs.Demand1.{DeliverSays, Demand1, LoadSays, OfferSays, SendSays, SetUpSays, StepSays, WalkSays, WriteSays}
 use Rattle.node.specs.declared.Node.{Node as Record}
 use Rattle.node.specs.declared.SetUp.{SetUp}
 use Rattle.node.specs.declared.SetUpAnswer.the-variants as setUpAnswer
@@ -358,11 +360,6 @@ step-says file c =
           (goes-not (eqb (length s) 0) (c .most) (lastStart s) (lastLength s) next);
     }
 
--- a test and its opposite
-turned : (b : Bool) (x y : WalkAnswer) → cond b x y ≡ cond (not b) y x
-turned true x y = refl
-turned false x y = refl
-
 walk-says : (file : List ℕ) (w : ℕ) → WalkSays file w
 unfolding walkCall
 walk-says file w =
@@ -384,6 +381,10 @@ demand1 =
       send = send-says;
       offer = offer-says;
       deliver = deliver-says;
+      hostSetUp = host-set-up-says;
+      hostSend = λ i to body out answer. host-send-says i to body out answer (send-says (recordIn i) to body out);
+      hostOffer = λ i s q answer. host-offer-says i s q answer (offer-says (recordIn i) s q);
+      hostDeliver = λ i q out body answer. host-deliver-says i q out body answer (deliver-says (recordIn i) q out body);
       load = load-says;
       write = write-says;
       step = step-says;

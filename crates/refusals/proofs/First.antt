@@ -1,6 +1,6 @@
 -- The first check of a list that is met, both ways. Assumes nothing.
 use Prim.Native.Nat.{ℕ, _<_}
-use mathlib.Core.Bool.{Bool, true, false, cond}
+use mathlib.Core.Bool.{Bool, true, false, cond, not}
 use mathlib.Core.List.{List, [], _∷_}
 use mathlib.Core.Logic.{inl, inr}
 use mathlib.Core.Path.{_≡_, refl, sym, ap, _∙_}
@@ -8,7 +8,7 @@ use native.Mathlib.Omega.{arith}
 use native.Mathlib.Decide.{ℕ-discrete}
 use borrow.Author.Tests.{ne-eqb}
 use lib.Dec.{eqb}
-use Rattle.refusals.specs.Demand1.{Answers, Check, First, Met, NoneMet, Rising, firstMet}
+use Rattle.refusals.specs.Checks.{Answers, Check, First, Met, NoneMet, Numbered, Rising, firstMet}
 
 -- no number of the list is 0
 abbrev pub Positive : List Check → Type 0
@@ -19,6 +19,11 @@ Positive (c ∷ l) = (0 < c .number) × Positive l
 pub not-both : (b : Bool) → b ≡ true → b ≡ false → ⊥
 not-both true p q = let z : _≡_ {A = ℕ} 0 1 = cc in absurd (omega arith)
 not-both false p q = let z : _≡_ {A = ℕ} 0 1 = cc in absurd (omega arith)
+
+-- a test and its opposite
+pub turned : {A : Type 0} (b : Bool) (x y : A) → cond b x y ≡ cond (not b) y x
+turned true x y = refl
+turned false x y = refl
 
 -- the first check of the list is met, or it is not
 module _ (c : Check) (l : List Check) where
@@ -85,17 +90,24 @@ first-lowest (c ∷ l) k r (inr f) j h (inl m) = not-both (c .met) (m .1) (f .0)
 first-lowest (c ∷ []) k r (inr f) j h (inr m) = m
 first-lowest (c ∷ d ∷ l) k r (inr f) j h (inr m) = first-lowest (d ∷ l) k (r .1) (f .1) j h m
 
+-- the number of the first check that is met says what it should
+pub by-number : (l : List Check) (status : ℕ) → Positive l → status ≡ firstMet l → Numbered l status
+by-number l status a e =
+    record {
+      first = e;
+      given = λ k h p. first-given l k h (sym e ∙ p);
+      gives = λ k f. e ∙ first-gives l k f;
+      accepted = λ p. none-given l a (sym e ∙ p);
+      accepts = λ f. e ∙ none-gives l f;
+    }
+
 -- an answer that is the refusal of the first met check, or where none is met is no refusal, says what it should
 pub by-first : {A : Type 0} (refused : ℕ → A) (number : A → ℕ) (l : List Check) (accepted answer : A) → Positive l
     → answer ≡ cond (eqb (firstMet l) 0) accepted (refused (firstMet l))
     → ((k : ℕ) → number (refused k) ≡ k) → number accepted ≡ 0 → ((k : ℕ) → ¬ (accepted ≡ refused k)) → Answers refused number l answer
 by-first {A} refused number l accepted answer a e n z d =
     record {
-      first = first;
-      given = λ k h p. first-given l k h (sym first ∙ p);
-      gives = λ k f. first ∙ first-gives l k f;
-      accepted = λ p. none-given l a (sym first ∙ p);
-      accepts = λ f. first ∙ none-gives l f;
+      numbered = by-number l (number answer) a first;
       refusal = refusal;
       refuses = λ k f. refuses k f (first-gives l k f);
     }
@@ -106,12 +118,12 @@ by-first {A} refused number l accepted answer a e n z d =
     given-up : ¬ (firstMet l ≡ 0) → answer ≡ refused (firstMet l)
     given-up h = e ∙ rw (ne-eqb (firstMet l) 0 h)
 
-    by-number : Dec (firstMet l ≡ 0) → number answer ≡ firstMet l
-    by-number (yes p) = ap number (taken p) ∙ z ∙ sym p
-    by-number (no h) = ap number (given-up h) ∙ n (firstMet l)
+    either : Dec (firstMet l ≡ 0) → number answer ≡ firstMet l
+    either (yes p) = ap number (taken p) ∙ z ∙ sym p
+    either (no h) = ap number (given-up h) ∙ n (firstMet l)
 
     first : number answer ≡ firstMet l
-    first = by-number (ℕ-discrete (firstMet l) 0)
+    first = either (ℕ-discrete (firstMet l) 0)
 
     refusal : (k : ℕ) → answer ≡ refused k → First l k
     refusal k p = go (ℕ-discrete (firstMet l) 0)

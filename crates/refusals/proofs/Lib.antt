@@ -1,4 +1,6 @@
--- The proof of demand 1, and the ◆ table computed.
+-- The proof of demand 1, worked examples of the host's calls, and the ◆ table computed.
 pub mod First
+pub mod Host
 pub mod Demand1
+pub mod Examples
 pub mod Table
