@@ -27,17 +27,39 @@ use Rattle.host.specs.Stores.{withHeld, withMatrix, withVector}
 use Rattle.host.proofs.node_deliver.Statement.{statement}
 use Rattle.host.proofs.node_deliver.Tie as tie
 
+-- the places that the facts below stand at
+abbrev start : tie.Else1 → tie.Start
+start c = c .before .before .before .before .before .before .before .before
+
+abbrev lent : tie.After-read-arrays → tie.Start
+lent c = start (c .before .before .before .before .before .before .before .before)
+
+abbrev opened : tie.After-read-arrays → tie.Else1
+opened c = c .before .before .before .before .before .before .before .before
+
+abbrev arrays : tie.After-refusal → tie.After-read-arrays
+arrays c = c .before .before .before .before .before .before .before
+
+abbrev passed : tie.After-search → tie.Else2
+passed c = c .before .before .before
+
+abbrev found : tie.After-take → tie.Else3
+found c = c .before .before .before .before .before
+
+abbrev counted : tie.After-count-up → tie.After-take
+counted c = c .before .before .before .before .before .before .before .before .before
+
 -- the image's trailer is right, and so is its length
-whole : (c : tie.Else1) → unsealed (c .before .before .before .before .before .before .before .before .args .image .now) ≡ false
+whole : (c : tie.Else1) → unsealed (start c .args .image .now) ≡ false
 whole c = sym (c .before .unsealed .ensures) ∙ c .if1 .left
 
-size : (c : tie.Else1) → length (c .before .before .before .before .before .before .before .before .args .image .now) ≡ imageSize
-size c = sealed-size (c .before .before .before .before .before .before .before .before .args .image .now) (whole c)
+size : (c : tie.Else1) → length (start c .args .image .now) ≡ imageSize
+size c = sealed-size (start c .args .image .now) (whole c)
 
 -- the record that is read
 abbrev read : tie.After-read-arrays → Record
 read c =
-    let i = c .before .before .before .before .before .before .before .before .before .before .before .before .before .before .before .before .args .image .now in
+    let i = lent c .args .image .now in
     record {
       me = getD i 0 0;
       n = getD i 1 0;
@@ -47,71 +69,80 @@ read c =
       held = getD i 627 0;
     }
 
-same : (c : tie.After-read-arrays) → read c ≡ recordIn (c .before .before .before .before .before .before .before .before .before .before .before .before .before .before .before .before .args .image .now)
+same : (c : tie.After-read-arrays) → read c ≡ recordIn (lent c .args .image .now)
 same c = record-read _ _ _ (c .read-arrays .ensures .0) (c .read-arrays .ensures .1)
 
 -- the refusal, of the record that the image reads as
 why : (c : tie.After-refusal) → c .refusal .result
-    ≡ deliverRefusal (recordIn (c .before .before .before .before .before .before .before .before .before .before .before .before .before .before .before .before .before .before .before .before .before .before .before .args .image .now)) (c .before .before .before .before .before .before .before .before .before .before .before .before .before .before .before .before .before .before .before .before .before .before .before .args .queue .now)
-    (shortLent (c .before .before .before .before .before .before .before .before .before .before .before .before .before .before .before .before .before .before .before .before .before .before .before .args .image .now) (c .before .before .before .before .before .before .before .before .before .before .before .before .before .before .before .before .before .before .before .before .before .before .before .args .queue .now) (c .before .before .before .before .before .before .before .before .before .before .before .before .before .before .before .before .before .before .before .before .before .before .before .args .out .now) (c .before .before .before .before .before .before .before .before .before .before .before .before .before .before .before .before .before .before .before .before .before .before .before .args .body .now) (c .before .before .before .before .before .before .before .before .before .before .before .before .before .before .before .before .before .before .before .before .before .before .before .args .answer .now))
+    ≡ (let a = lent (arrays c) .args in
+    deliverRefusal (recordIn (a .image .now)) (a .queue .now) (shortLent (a .image .now) (a .queue .now) (a .out .now) (a .body .now) (a .answer .now)))
 why c =
     c .refusal .ensures
-    ∙ ap₂ (λ (r : Record) (short : Bool). deliverRefusal r (c .before .before .before .before .before .before .before .before .before .before .before .before .before .before .before .before .before .before .before .before .before .before .before .args .queue .now) short) (same (c .before .before .before .before .before .before .before)) (c .before .before .before .before .short-for-deliver .ensures)
+    ∙ ap₂ (λ (r : Record) (short : Bool). deliverRefusal r (lent (arrays c) .args .queue .now) short) (same (arrays c))
+    (c .before .before .before .before .short-for-deliver .ensures)
 
 -- once no check is met
-ready : (c : tie.Else2) → DeliverReady (c .before .before .before .before .before .before .before .before .before .before .before .before .before .before .before .before .before .before .before .before .before .before .before .before .args .image .now) (c .before .before .before .before .before .before .before .before .before .before .before .before .before .before .before .before .before .before .before .before .before .before .before .before .args .queue .now) (c .before .before .before .before .before .before .before .before .before .before .before .before .before .before .before .before .before .before .before .before .before .before .before .before .args .out .now) (c .before .before .before .before .before .before .before .before .before .before .before .before .before .before .before .before .before .before .before .before .before .before .before .before .args .body .now) (c .before .before .before .before .before .before .before .before .before .before .before .before .before .before .before .before .before .before .before .before .before .before .before .before .args .answer .now)
-ready c = deliver-ready _ _ _ _ _ (whole (c .before .before .before .before .before .before .before .before .before .before .before .before .before .before .before .before)) (sym (why (c .before)) ∙ c .if2 .left)
+ready : (c : tie.Else2) → (let a =
+    lent (arrays (c .before)) .args in DeliverReady (a .image .now) (a .queue .now) (a .out .now) (a .body .now) (a .answer .now))
+ready c = deliver-ready _ _ _ _ _ (whole (opened (arrays (c .before)))) (sym (why (c .before)) ∙ c .if2 .left)
 
-passed-checks : (c : tie.Else2) → Ready (recordIn (c .before .before .before .before .before .before .before .before .before .before .before .before .before .before .before .before .before .before .before .before .before .before .before .before .args .image .now)) (c .before .before .before .before .before .before .before .before .before .before .before .before .before .before .before .before .before .before .before .before .before .before .before .before .args .queue .now) (length (c .before .before .before .before .before .before .before .before .before .before .before .before .before .before .before .before .before .before .before .before .before .before .before .before .args .out .now))
-    (length (c .before .before .before .before .before .before .before .before .before .before .before .before .before .before .before .before .before .before .before .before .before .before .before .before .args .body .now))
+passed-checks : (c : tie.Else2)
+    → (let a = lent (arrays (c .before)) .args in Ready (recordIn (a .image .now)) (a .queue .now) (length (a .out .now)) (length (a .body .now)))
 passed-checks c = node-ready _ _ _ _ (ready c .passes)
 
-checked : (c : tie.Else2) → CheckedQueue (getD (c .before .before .before .before .before .before .before .before .before .before .before .before .before .before .before .before .before .before .before .before .before .before .before .before .args .image .now) 627 0) (c .before .before .before .before .before .before .before .before .before .before .before .before .before .before .before .before .before .before .before .before .before .before .before .before .args .queue .now)
+checked : (c : tie.Else2) → (let a = lent (arrays (c .before)) .args in CheckedQueue (getD (a .image .now) 627 0) (a .queue .now))
 unfolding recordIn
 checked c = passed-checks c .queue
 
 -- the arrays that are read
 sized : (c : tie.After-read-arrays) → (length (c .read-arrays .last .1 .0) ≡ 144) × (length (c .read-arrays .last .1 .1 .0) ≡ 12)
 sized c =
-    let i = c .before .before .before .before .before .before .before .before .before .before .before .before .before .before .before .before .args .image .now in
+    let i = lent c .args .image .now in
     (ap length (c .read-arrays .ensures .0) ∙ record-cells i, ap length (c .read-arrays .ensures .1) ∙ record-senders i)
 
 -- the place found
-spot : (c : tie.After-search) → c .search .result ≡ placeOf (searched (recordIn (c .before .before .before .before .before .before .before .before .before .before .before .before .before .before .before .before .before .before .before .before .before .before .before .before .before .before .before .args .image .now)) (c .before .before .before .before .before .before .before .before .before .before .before .before .before .before .before .before .before .before .before .before .before .before .before .before .before .before .before .args .queue .now))
-spot c = c .search .ensures _ _ _ _ ∙ ap (λ (r : Record). placeOf (searched r (c .before .before .before .before .before .before .before .before .before .before .before .before .before .before .before .before .before .before .before .before .before .before .before .before .before .before .before .args .queue .now))) (same (c .before .before .before .before .before .before .before .before .before .before .before))
+spot : (c : tie.After-search) → c .search .result ≡ (let a =
+    lent (arrays (passed c .before)) .args in placeOf (searched (recordIn (a .image .now)) (a .queue .now)))
+spot c =
+    c .search .ensures _ _ _ _ ∙ ap (λ (r : Record). placeOf (searched r (lent (arrays (passed c .before)) .args .queue .now)))
+    (same (arrays (passed c .before)))
 
-finds : (c : tie.Else3) → Finds (read (c .before .before .before .before .before .before .before .before .before .before .before .before)) (c .before .before .before .before .before .before .before .before .before .before .before .before .before .before .before .before .before .before .before .before .before .before .before .before .before .before .before .before .args .queue .now) (length (c .before .before .before .before .before .before .before .before .before .before .before .before .before .before .before .before .before .before .before .before .before .before .before .before .before .before .before .before .args .out .now)) (length (c .before .before .before .before .before .before .before .before .before .before .before .before .before .before .before .before .before .before .before .before .before .before .before .before .before .before .before .before .args .body .now))
-    (c .before .search .result)
+finds : (c : tie.Else3) → (let a = lent (arrays (passed (c .before) .before)) .args in
+    Finds (read (arrays (passed (c .before) .before))) (a .queue .now) (length (a .out .now)) (length (a .body .now)) (c .before .search .result))
 finds c =
-    let a = c .before .before .before .before .before .before .before .before .before .before .before .before .before .before .before .before .before .before .before .before .before .before .before .before .before .before .before .before .args in
+    let a = lent (arrays (passed (c .before) .before)) .args in
     record {
       passes =
-          ap (λ (r : Record). deliverRefusal r (a .queue .now) (shortOutputs (length (a .out .now)) (length (a .body .now)))) (same (c .before .before .before .before .before .before .before .before .before .before .before .before))
-          ∙ ready (c .before .before .before .before) .passes;
+          ap (λ (r : Record). deliverRefusal r (a .queue .now) (shortOutputs (length (a .out .now)) (length (a .body .now))))
+          (same (arrays (passed (c .before) .before))) ∙ ready (passed (c .before)) .passes;
       found = c .before .search .ensures _ _ _ _;
       some = c .if3 .left;
     }
 
 -- what is left of queue and outputs
-kept : (c : tie.After-take) → (length (c .take .last .1 .1 .1 .1 .1 .0) ≡ length (c .before .before .before .before .before .before .before .before .before .before .before .before .before .before .before .before .before .before .before .before .before .before .before .before .before .before .before .before .before .before .before .before .before .args .queue .now))
-    × (length (c .take .last .1 .1 .1 .1 .1 .1 .1 .0) ≡ length (c .before .before .before .before .before .before .before .before .before .before .before .before .before .before .before .before .before .before .before .before .before .before .before .before .before .before .before .before .before .before .before .before .before .args .out .now))
-    × (length (c .take .last .1 .1 .1 .1 .1 .1 .1 .1 .0) ≡ length (c .before .before .before .before .before .before .before .before .before .before .before .before .before .before .before .before .before .before .before .before .before .before .before .before .before .before .before .before .before .before .before .before .before .args .body .now))
+kept : (c : tie.After-take) → (let a = lent (arrays (passed (found c .before) .before)) .args in
+    (length (c .take .last .1 .1 .1 .1 .1 .0) ≡ length (a .queue .now)) × (length (c .take .last .1 .1 .1 .1 .1 .1 .1 .0) ≡ length (a .out .now))
+    × (length (c .take .last .1 .1 .1 .1 .1 .1 .1 .1 .0) ≡ length (a .body .now)))
 kept c = search needs
 
 -- the vector that is left, and the whole delivery
 vectored : (c : tie.After-count-up) → length (c .count-up .last .0) ≡ 12
-vectored c = ap length (c .count-up .ensures) ∙ length-list 0 12 (countUp (c .before .before .before .before .before .before .before .before .before .take .result .from) (vector (c .before .before .before .before .before .before .before .before .before .before .before .before .before .before .before .before .before .before .before .before .before .before .before .before .before .before .read-arrays .last .1 .1 .0)))
+vectored c =
+    ap length (c .count-up .ensures)
+    ∙ length-list 0 12 (countUp (counted c .take .result .from) (vector (arrays (passed (found (counted c) .before) .before) .read-arrays .last .1 .1 .0)))
 
-taken : (c : tie.After-count-up)
-    → afterDeliver (record {
-      answer = Frame (c .before .before .before .before .before .before .before .before .before .take .result);
-      node = withHeld (getD (c .before .before .before .before .before .before .before .before .before .before .before .before .before .before .before .before .before .before .before .before .before .before .before .before .before .before .before .before .before .before .before .before .before .before .before .before .before .before .before .before .before .before .args .image .now) 627 0 - 1) (withVector (c .count-up .last .0) (withMatrix (c .before .before .before .before .before .before .before .before .before .take .last .1 .1 .1 .0) (recordIn (c .before .before .before .before .before .before .before .before .before .before .before .before .before .before .before .before .before .before .before .before .before .before .before .before .before .before .before .before .before .before .before .before .before .before .before .before .before .before .before .before .before .before .args .image .now))));
-    }) (c .before .before .before .before .before .before .before .before .before .take .last .1 .1 .1 .1 .1 .0) (c .before .before .before .before .before .before .before .before .before .take .last .1 .1 .1 .1 .1 .1 .1 .0) (c .before .before .before .before .before .before .before .before .before .take .last .1 .1 .1 .1 .1 .1 .1 .1 .0)
-    ≡ deliverCall (recordIn (c .before .before .before .before .before .before .before .before .before .before .before .before .before .before .before .before .before .before .before .before .before .before .before .before .before .before .before .before .before .before .before .before .before .before .before .before .before .before .before .before .before .before .args .image .now)) (c .before .before .before .before .before .before .before .before .before .before .before .before .before .before .before .before .before .before .before .before .before .before .before .before .before .before .before .before .before .before .before .before .before .before .before .before .before .before .before .before .before .before .args .queue .now) (c .before .before .before .before .before .before .before .before .before .before .before .before .before .before .before .before .before .before .before .before .before .before .before .before .before .before .before .before .before .before .before .before .before .before .before .before .before .before .before .before .before .before .args .out .now) (c .before .before .before .before .before .before .before .before .before .before .before .before .before .before .before .before .before .before .before .before .before .before .before .before .before .before .before .before .before .before .before .before .before .before .before .before .before .before .before .before .before .before .args .body .now)
+taken : (c : tie.After-count-up) → (let t = counted c .take in
+    let a = lent (arrays (passed (found (counted c) .before) .before)) .args in
+    let i = a .image .now in
+    afterDeliver (record {
+      answer = Frame (t .result);
+      node = withHeld (getD i 627 0 - 1) (withVector (c .count-up .last .0) (withMatrix (t .last .1 .1 .1 .0) (recordIn i)));
+    }) (t .last .1 .1 .1 .1 .1 .0) (t .last .1 .1 .1 .1 .1 .1 .1 .0) (t .last .1 .1 .1 .1 .1 .1 .1 .1 .0)
+    ≡ deliverCall (recordIn i) (a .queue .now) (a .out .now) (a .body .now))
 taken c =
-    let r = c .before .before .before .before .before .before .before .before .before .before .before .before .before .before .before .before .before .before .before .before .before .before .before .before .before .before in
-    deliver-taken _ _ _ _ _ _ _ _ _ _ _ _ _ _ (r .read-arrays .ensures .0) (r .read-arrays .ensures .1) (c .count-up .ensures) (finds (c .before .before .before .before .before .before .before .before .before .before .before .before .before .before))
-    (c .before .before .before .before .before .before .before .before .before .take .ensures .2 _)
+    let r = arrays (passed (found (counted c) .before) .before) in
+    deliver-taken _ _ _ _ _ _ _ _ _ _ _ _ _ _ (r .read-arrays .ensures .0) (r .read-arrays .ensures .1) (c .count-up .ensures) (finds (found (counted c)))
+    (counted c .take .ensures .2 _)
 
 unsealed-requires : tie.Need-unsealed-requires
 unsealed-requires c κs = search needs
@@ -160,9 +191,10 @@ same-length-3 c = search needs
 
 returns-2 : tie.Need-returns-2
 returns-2 c =
-    let a = c .before .before .before .before .before .before .before .before .before .before .before .before .before .before .before .before .before .before .before .before .before .before .before .before .before .args in
+    let a = lent (arrays (c .before .before)) .args in
     rw (c .told .ensures)
-    (deliver-why (a .image .now) (a .queue .now) (a .out .now) (a .body .now) (a .answer .now) (whole (c .before .before .before .before .before .before .before .before .before .before .before .before .before .before .before .before .before)) _ (why (c .before .before)) (c .before .if2 .taken))
+    (deliver-why (a .image .now) (a .queue .now) (a .out .now) (a .body .now) (a .answer .now) (whole (opened (arrays (c .before .before)))) _
+    (why (c .before .before)) (c .before .if2 .taken))
 
 cast-search : tie.Need-cast-search
 cast-search c = record { fits = omega (arith, checked (c .before) .most) }
@@ -171,7 +203,7 @@ search-requires : tie.Need-search-requires
 search-requires c κs = checked (c .before .before)
 
 write-requires : tie.Need-write-requires
-write-requires c κs = nltb→le _ answerSize (of-false _ (ready (c .before .before .before .before .before) .long))
+write-requires c κs = nltb→le _ answerSize (of-false _ (ready (passed (c .before .before)) .long))
 
 same-length-4 : tie.Need-same-length-4
 same-length-4 c = search needs
@@ -185,61 +217,90 @@ same-length-6 c = search needs
 returns-3 : tie.Need-returns-3
 unfolding recordIn
 returns-3 c =
-    let a = c .before .before .before .before .before .before .before .before .before .before .before .before .before .before .before .before .before .before .before .before .before .before .before .before .before .before .before .before .before .before .before .before .args in
+    let a = lent (arrays (passed (c .before .before .before .before .before) .before)) .args in
     let i = a .image .now in
-    let k = ready (c .before .before .before .before .before .before .before .before) in
+    let k = ready (passed (c .before .before .before .before .before)) in
     deliver-nothing i (a .queue .now) (a .out .now) (a .body .now) (a .answer .now) k _ _
-    (deliver-none (recordIn i) (a .queue .now) (a .out .now) (a .body .now) _ (spot (c .before .before .before .before .before)) (c .before .before .before .before .if3 .taken)
+    (deliver-none (recordIn i) (a .queue .now) (a .out .now) (a .body .now) _ (spot (c .before .before .before .before .before))
+    (c .before .before .before .before .if3 .taken)
     ∙ deliver-accepted (recordIn i) (a .queue .now) (a .out .now) (a .body .now) (k .passes)) (c .before .before .write .ensures)
 
 take-requires : tie.Need-take-requires
-take-requires c κs = record { deliv = c .before .before .before .before .before .before .before .before .before .before .before .before .before .before .before .before .read-arrays .last .1 .1 .0; cells = sized (c .before .before .before .before .before .before .before .before .before .before .before .before .before .before .before .before) .0; finds = finds (c .before .before .before .before) }
+take-requires c κs = record {
+  deliv = arrays (passed (c .before .before .before .before .before) .before) .read-arrays .last .1 .1 .0;
+  cells = sized (arrays (passed (c .before .before .before .before .before) .before)) .0;
+  finds =
+      finds (c .before .before .before .before);
+}
 
 cast-count-up : tie.Need-cast-count-up
 cast-count-up c = search needs
 
 count-up-requires : tie.Need-count-up-requires
 count-up-requires c κs =
-    let r = c .before .before .before .before .before .before .before .before .before .before .before .before .before .before .before .before .before .before .before .before .before .before .before .before .before in
-    let from = c .before .before .before .before .before .before .before .before .take .ensures .0 in
-    (sized r .1, from, rw (r .read-arrays .ensures .1) (passed-checks (c .before .before .before .before .before .before .before .before .before .before .before .before .before .before .before .before .before) .sound .vectorLimit _ from))
+    let r = arrays (passed (found (c .before .before .before .before .before .before .before .before) .before) .before) in
+    let from = c .before .before .before .before .before .before .before .before .take .ensures .0 in (
+      sized r .1,
+      from,
+      rw (r .read-arrays .ensures .1) (passed-checks
+          (passed (found (c .before .before .before .before .before .before .before .before) .before)) .sound .vectorLimit _ from),
+    )
 
 slice-aggregate-store-delivery : tie.Need-slice-aggregate-store-delivery
-slice-aggregate-store-delivery c = sym (c .before .before .before .before .before .before .before .before .before .before .before .take .ensures .1)
+slice-aggregate-store-delivery c = sym (counted (c .before .before) .take .ensures .1)
 
 slice-aggregate-store-delivery-2 : tie.Need-slice-aggregate-store-delivery-2
 slice-aggregate-store-delivery-2 c = sym (vectored (c .before .before .before))
 
 sub-store-delivery : tie.Need-sub-store-delivery
-sub-store-delivery c = let f = finds (c .before .before .before .before .before .before .before .before .before .before .before .before .before .before .before .before .before) in omega (arith, place-held (read (c .before .before .before .before .before .before .before .before .before .before .before .before .before .before .before .before .before .before .before .before .before .before .before .before .before .before .before .before .before)) (c .before .before .before .before .before .before .before .before .before .before .before .before .before .before .before .before .before .before .before .before .before .before .before .before .before .before .before .before .before .before .before .before .before .before .before .before .before .before .before .before .before .before .before .before .before .args .queue .now) _ (f .found) (f .some))
+sub-store-delivery c =
+    let f = finds (found (counted (c .before .before .before))) in
+    omega (
+      arith,
+      place-held (read (arrays (passed (found (counted (c .before .before .before)) .before) .before)))
+          (lent (arrays (passed (found (counted (c .before .before .before)) .before) .before)) .args .queue .now) _ (f .found) (f .some),
+    )
 
 store-delivery-requires : tie.Need-store-delivery-requires
-store-delivery-requires c κs = (size (c .before .before .before .before .before .before .before .before .before .before .before .before .before .before .before .before .before .before .before .before .before .before .before .before .before .before .before .before .before .before .before .before .before .before .before .before .before), c .before .before .before .before .before .before .before .before .before .before .before .before .take .ensures .1, vectored (c .before .before .before))
+store-delivery-requires c κs = (
+  size (opened (arrays (passed (found (counted (c .before .before .before)) .before) .before))),
+  counted
+      (c .before .before .before) .take .ensures .1,
+  vectored (c .before .before .before),
+)
 
 write-delivery-requires : tie.Need-write-delivery-requires
 write-delivery-requires c κs =
-    let w = deliver-small _ _ _ _ _ _ _ _ _ (taken (c .before .before .before .before .before .before .before)) in
-    (nltb→le _ answerSize (of-false _ (ready (c .before .before .before .before .before .before .before .before .before .before .before .before .before .before .before .before .before .before .before .before .before .before .before .before .before) .long)), w .0, w .1, w .2, w .3)
+    let w = deliver-small _ _ _ _ _ _ _ _ _ (taken (c .before .before .before .before .before .before .before)) in (
+      nltb→le _ answerSize (of-false _ (ready (passed (found (counted
+          (c .before .before .before .before .before .before .before)) .before)) .long)),
+      w .0,
+      w .1,
+      w .2,
+      w .3,
+    )
 
 same-length-7 : tie.Need-same-length-7
 same-length-7 c = search needs
 
 same-length-8 : tie.Need-same-length-8
-same-length-8 c = kept (c .before .before .before .before .before .before .before .before .before .before .before .before .before .before .before .before .before .before .before) .0
+same-length-8 c = kept (counted (c .before .before .before .before .before .before .before .before .before .before)) .0
 
 same-length-9 : tie.Need-same-length-9
-same-length-9 c = kept (c .before .before .before .before .before .before .before .before .before .before .before .before .before .before .before .before .before .before .before) .1
+same-length-9 c = kept (counted (c .before .before .before .before .before .before .before .before .before .before)) .1
 
 same-length-10 : tie.Need-same-length-10
-same-length-10 c = kept (c .before .before .before .before .before .before .before .before .before .before .before .before .before .before .before .before .before .before .before) .2
+same-length-10 c = kept (counted (c .before .before .before .before .before .before .before .before .before .before)) .2
 
 same-length-11 : tie.Need-same-length-11
 same-length-11 c = search needs
 
 returns-4 : tie.Need-returns-4
 returns-4 c =
-    let a = c .before .before .before .before .before .before .before .before .before .before .before .before .before .before .before .before .before .before .before .before .before .before .before .before .before .before .before .before .before .before .before .before .before .before .before .before .before .before .before .before .before .before .before .before .before .before .before .before .before .before .before .before .args in
-    deliver-done (a .image .now) (a .queue .now) (a .out .now) (a .body .now) (a .answer .now) (ready (c .before .before .before .before .before .before .before .before .before .before .before .before .before .before .before .before .before .before .before .before .before .before .before .before .before .before .before .before)) _ _ _ _ _ _ _ (taken (c .before .before .before .before .before .before .before .before .before .before))
+    let a = lent (arrays (passed (found (counted (c .before .before .before .before .before .before .before .before .before .before)) .before) .before)) .args in
+    deliver-done (a .image .now) (a .queue .now) (a .out .now) (a .body .now) (a .answer .now)
+    (ready (passed (found (counted (c .before .before .before .before .before .before .before .before .before .before)) .before))) _ _ _ _ _ _ _
+    (taken (c .before .before .before .before .before .before .before .before .before .before))
     (c .before .before .before .before .before .before .store-delivery .ensures) (c .before .before .write-delivery .ensures)
 
 pub node-deliver-spec : {M : Type 1} → statement M

@@ -12,25 +12,44 @@ use Rattle.node.specs.CallRefusals.{sendRefusal}
 use Rattle.node.specs.Calls.{sendCall}
 use Rattle.node.specs.declared.Node.{Node as Record}
 use Rattle.node.specs.declared.SendAnswer.the-variants.{Sent}
-use Rattle.host.proofs.Left.{SendReady, record-cells, record-read, sealed-size, send-20, send-cells, send-done, send-issued, send-ready, send-small, send-why}
-use Rattle.host.proofs.Left.{sendRoom, unsealed}
+use Rattle.host.proofs.Left.{SendReady, send-20, send-cells, send-done, send-issued, send-ready, send-small, send-why, sendRoom}
+use Rattle.host.proofs.Left.{record-cells, record-read, sealed-size, unsealed}
 use Rattle.host.specs.Exports.{answerSize}
 use Rattle.host.specs.Image.{imageSize, recordIn}
 use Rattle.host.specs.Stores.{withMatrix}
 use Rattle.host.proofs.node_send.Statement.{statement}
 use Rattle.host.proofs.node_send.Tie as tie
 
+-- the places that the facts below stand at
+abbrev start : tie.Else1 → tie.Start
+start c = c .before .before .before .before .before .before .before
+
+abbrev lent : tie.After-read-arrays → tie.Start
+lent c = start (c .before .before .before .before .before .before .before)
+
+abbrev opened : tie.After-read-arrays → tie.Else1
+opened c = c .before .before .before .before .before .before .before
+
+abbrev arrays : tie.After-refusal → tie.After-read-arrays
+arrays c = c .before .before .before .before .before .before .before
+
+abbrev checked : tie.Else2 → tie.After-read-arrays
+checked c = arrays (c .before)
+
+abbrev passed : tie.After-issue → tie.Else2
+passed c = c .before .before .before
+
 -- the image's trailer is right, and so is its length
-whole : (c : tie.Else1) → unsealed (c .before .before .before .before .before .before .before .args .image .now) ≡ false
+whole : (c : tie.Else1) → unsealed (start c .args .image .now) ≡ false
 whole c = sym (c .before .unsealed .ensures) ∙ c .if1 .left
 
-size : (c : tie.Else1) → length (c .before .before .before .before .before .before .before .args .image .now) ≡ imageSize
-size c = sealed-size (c .before .before .before .before .before .before .before .args .image .now) (whole c)
+size : (c : tie.Else1) → length (start c .args .image .now) ≡ imageSize
+size c = sealed-size (start c .args .image .now) (whole c)
 
 -- the record that is read
 abbrev read : tie.After-read-arrays → Record
 read c =
-    let i = c .before .before .before .before .before .before .before .before .before .before .before .before .before .before .args .image .now in
+    let i = lent c .args .image .now in
     record {
       me = getD i 0 0;
       n = getD i 1 0;
@@ -40,38 +59,38 @@ read c =
       held = getD i 627 0;
     }
 
-same : (c : tie.After-read-arrays) → read c ≡ recordIn (c .before .before .before .before .before .before .before .before .before .before .before .before .before .before .args .image .now)
+same : (c : tie.After-read-arrays) → read c ≡ recordIn (lent c .args .image .now)
 same c = record-read _ _ _ (c .read-arrays .ensures .0) (c .read-arrays .ensures .1)
 
 -- the refusal, of the record that the image reads as
 why : (c : tie.After-refusal) → c .refusal .result
-    ≡ sendRefusal (recordIn (c .before .before .before .before .before .before .before .before .before .before .before .before .before .before .before .before .before .before .before .before .before .args .image .now)) (c .before .before .before .before .before .before .before .before .before .before .before .before .before .before .before .before .before .before .before .before .before .args .to) (length (c .before .before .before .before .before .before .before .before .before .before .before .before .before .before .before .before .before .before .before .before .before .args .body .now))
-    (sendRoom (c .before .before .before .before .before .before .before .before .before .before .before .before .before .before .before .before .before .before .before .before .before .args .image .now) (c .before .before .before .before .before .before .before .before .before .before .before .before .before .before .before .before .before .before .before .before .before .args .to) (c .before .before .before .before .before .before .before .before .before .before .before .before .before .before .before .before .before .before .before .before .before .args .body .now) (c .before .before .before .before .before .before .before .before .before .before .before .before .before .before .before .before .before .before .before .before .before .args .out .now) (c .before .before .before .before .before .before .before .before .before .before .before .before .before .before .before .before .before .before .before .before .before .args .answer .now))
+    ≡ (let a = lent (arrays c) .args in
+    sendRefusal (recordIn (a .image .now)) (a .to) (length (a .body .now)) (sendRoom (a .image .now) (a .to) (a .body .now) (a .out .now) (a .answer .now)))
 why c =
-    let a = c .before .before .before .before .before .before .before .before .before .before .before .before .before .before .before .before .before .before .before .before .before .args in
+    let a = lent (arrays c) .args in
     c .refusal .ensures
-    ∙ ap₂ (λ (x : Record) (room : ℕ). sendRefusal x (a .to) (length (a .body .now)) room) (same (c .before .before .before .before .before .before .before)) (c .before .before .before .before .room .ensures)
+    ∙ ap₂ (λ (x : Record) (room : ℕ). sendRefusal x (a .to) (length (a .body .now)) room) (same (arrays c)) (c .before .before .before .before .room .ensures)
 
 -- once no check is met
-ready : (c : tie.Else2) → SendReady (c .before .before .before .before .before .before .before .before .before .before .before .before .before .before .before .before .before .before .before .before .before .before .args .image .now) (c .before .before .before .before .before .before .before .before .before .before .before .before .before .before .before .before .before .before .before .before .before .before .args .to) (c .before .before .before .before .before .before .before .before .before .before .before .before .before .before .before .before .before .before .before .before .before .before .args .body .now) (c .before .before .before .before .before .before .before .before .before .before .before .before .before .before .before .before .before .before .before .before .before .before .args .out .now) (c .before .before .before .before .before .before .before .before .before .before .before .before .before .before .before .before .before .before .before .before .before .before .args .answer .now)
-ready c = send-ready _ _ _ _ _ (whole (c .before .before .before .before .before .before .before .before .before .before .before .before .before .before .before)) (sym (why (c .before)) ∙ c .if2 .left)
+ready : (c : tie.Else2) → (let a = lent (checked c) .args in SendReady (a .image .now) (a .to) (a .body .now) (a .out .now) (a .answer .now))
+ready c = send-ready _ _ _ _ _ (whole (opened (checked c))) (sym (why (c .before)) ∙ c .if2 .left)
 
 -- the matrix that is read
 cells : (c : tie.After-read-arrays) → length (c .read-arrays .last .1 .0) ≡ 144
-cells c = ap length (c .read-arrays .ensures .0) ∙ record-cells (c .before .before .before .before .before .before .before .before .before .before .before .before .before .before .args .image .now)
+cells c = ap length (c .read-arrays .ensures .0) ∙ record-cells (lent c .args .image .now)
 
 -- what is issued, and left
 issued : (c : tie.After-issue)
     → afterSend (record {
       answer = Sent (c .issue .result .at) (c .issue .result .extras);
-      node = withMatrix (c .issue .last .1 .1 .1 .0) (recordIn (c .before .before .before .before .before .before .before .before .before .before .before .before .before .before .before .before .before .before .before .before .before .before .before .before .before .args .image .now));
+      node = withMatrix (c .issue .last .1 .1 .1 .0) (recordIn (lent (checked (passed c)) .args .image .now));
     }) (c .issue .last .1 .1 .1 .1 .1 .1 .0)
-    ≡ sendCall (recordIn (c .before .before .before .before .before .before .before .before .before .before .before .before .before .before .before .before .before .before .before .before .before .before .before .before .before .args .image .now)) (c .before .before .before .before .before .before .before .before .before .before .before .before .before .before .before .before .before .before .before .before .before .before .before .before .before .args .to) (c .before .before .before .before .before .before .before .before .before .before .before .before .before .before .before .before .before .before .before .before .before .before .before .before .before .args .body .now) (c .before .before .before .before .before .before .before .before .before .before .before .before .before .before .before .before .before .before .before .before .before .before .before .before .before .args .out .now)
+    ≡ (let a = lent (checked (passed c)) .args in sendCall (recordIn (a .image .now)) (a .to) (a .body .now) (a .out .now))
 issued c =
-    send-issued _ _ _ _ _ _ _ _ _ (c .before .before .before .before .before .before .before .before .before .before .before .read-arrays .ensures .0) (ready (c .before .before .before) .passes) (c .issue .ensures)
+    send-issued _ _ _ _ _ _ _ _ _ (checked (passed c) .read-arrays .ensures .0) (ready (passed c) .passes) (c .issue .ensures)
 
 left-cells : (c : tie.After-issue) → length (c .issue .last .1 .1 .1 .0) ≡ 144
-left-cells c = send-cells _ _ _ _ _ _ _ _ (ready (c .before .before .before) .passes) (issued c)
+left-cells c = send-cells _ _ _ _ _ _ _ _ (ready (passed c) .passes) (issued c)
 
 small : (c : tie.After-issue) → (c .issue .result .extras < 256) × (c .issue .result .at < 65536)
 small c = send-small _ _ _ _ _ _ _ _ (issued c)
@@ -107,7 +126,7 @@ room-requires : tie.Need-room-requires
 room-requires c κs = search needs
 
 slice-read-refusal : tie.Need-slice-read-refusal
-slice-read-refusal c = omega (arith, size (c .before .before .before .before .before .before .before .before .before .before .before .before .before))
+slice-read-refusal c = omega (arith, size (opened (c .before .before .before .before .before .before)))
 
 refusal-requires : tie.Need-refusal-requires
 refusal-requires c κs = search needs
@@ -120,26 +139,28 @@ same-length-2 c = search needs
 
 returns-2 : tie.Need-returns-2
 returns-2 c =
-    let a = c .before .before .before .before .before .before .before .before .before .before .before .before .before .before .before .before .before .before .before .before .before .before .before .args in
+    let a = lent (arrays (c .before .before)) .args in
     rw (c .told .ensures)
-    (send-why (a .image .now) (a .to) (a .body .now) (a .out .now) (a .answer .now) (whole (c .before .before .before .before .before .before .before .before .before .before .before .before .before .before .before .before)) _ (why (c .before .before)) (c .before .if2 .taken))
+    (send-why (a .image .now) (a .to) (a .body .now) (a .out .now) (a .answer .now) (whole (opened (arrays (c .before .before)))) _ (why (c .before .before))
+    (c .before .if2 .taken))
 
 issue-requires : tie.Need-issue-requires
 issue-requires c κs =
-    let a = c .before .before .before .before .before .before .before .before .before .before .before .before .before .before .before .before .before .before .before .before .before .before .before .before .args in
+    let a = lent (checked (c .before .before)) .args in
     record {
-      deliv = c .before .before .before .before .before .before .before .before .before .before .read-arrays .last .1 .1 .0;
+      deliv = checked (c .before .before) .read-arrays .last .1 .1 .0;
       held = getD (a .image .now) 627 0;
-      cells = cells (c .before .before .before .before .before .before .before .before .before .before);
+      cells = cells (checked (c .before .before));
       passes =
-          ap (λ (r : Record). sendRefusal r (a .to) (length (a .body .now)) (length (a .out .now))) (same (c .before .before .before .before .before .before .before .before .before .before)) ∙ ready (c .before .before) .passes;
+          ap (λ (r : Record). sendRefusal r (a .to) (length (a .body .now)) (length (a .out .now))) (same (checked (c .before .before)))
+          ∙ ready (c .before .before) .passes;
     }
 
 slice-aggregate-store-matrix : tie.Need-slice-aggregate-store-matrix
 slice-aggregate-store-matrix c = sym (left-cells (c .before .before .before .before))
 
 store-matrix-requires : tie.Need-store-matrix-requires
-store-matrix-requires c κs = (size (c .before .before .before .before .before .before .before .before .before .before .before .before .before .before .before .before .before .before .before .before .before .before), left-cells (c .before .before .before .before))
+store-matrix-requires c κs = (size (opened (checked (passed (c .before .before .before .before)))), left-cells (c .before .before .before .before))
 
 cast-write : tie.Need-cast-write
 cast-write c = record { fits = omega (arith, small (c .before .before .before .before .before .before .before .before .before) .0) }
@@ -148,7 +169,8 @@ cast-write-2 : tie.Need-cast-write-2
 cast-write-2 c = record { fits = omega (arith, small (c .before .before .before .before .before .before .before .before .before .before) .1) }
 
 write-requires : tie.Need-write-requires
-write-requires c κs = nltb→le _ answerSize (of-false _ (ready (c .before .before .before .before .before .before .before .before .before .before .before .before .before) .long))
+write-requires c κs =
+    nltb→le _ answerSize (of-false _ (ready (passed (c .before .before .before .before .before .before .before .before .before .before)) .long))
 
 same-length-3 : tie.Need-same-length-3
 same-length-3 c = search needs
@@ -161,8 +183,10 @@ same-length-5 c = search needs
 
 returns-3 : tie.Need-returns-3
 returns-3 c =
-    let a = c .before .before .before .before .before .before .before .before .before .before .before .before .before .before .before .before .before .before .before .before .before .before .before .before .before .before .before .before .before .before .before .before .before .before .before .before .before .before .args in
-    send-done (a .image .now) (a .to) (a .body .now) (a .out .now) (a .answer .now) (ready (c .before .before .before .before .before .before .before .before .before .before .before .before .before .before .before .before)) _ _ _ _ _ _ (issued (c .before .before .before .before .before .before .before .before .before .before .before .before .before))
+    let a = lent (checked (passed (c .before .before .before .before .before .before .before .before .before .before .before .before .before))) .args in
+    send-done (a .image .now) (a .to) (a .body .now) (a .out .now) (a .answer .now)
+    (ready (passed (c .before .before .before .before .before .before .before .before .before .before .before .before .before))) _ _ _ _ _ _
+    (issued (c .before .before .before .before .before .before .before .before .before .before .before .before .before))
     (c .before .before .before .before .before .before .before .before .store-matrix .ensures) (c .before .before .write .ensures)
 
 pub node-send-spec : {M : Type 1} → statement M

@@ -40,7 +40,9 @@ same-length : tie.Need-same-length
 same-length c = search needs
 
 returns-3 : tie.Need-returns-3
-returns-3 c = set-up-done _ _ _ _ _ (good (c .before .before .before .before .before)) (c .before .before .before .before .if2 .left) (c .before .before .store-fresh .ensures)
+returns-3 c =
+    set-up-done _ _ _ _ _ (good (c .before .before .before .before .before)) (c .before .before .before .before .if2 .left)
+    (c .before .before .store-fresh .ensures)
 
 pub node-set-up-spec : {M : Type 1} → statement M
 node-set-up-spec =

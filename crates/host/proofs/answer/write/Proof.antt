@@ -7,6 +7,10 @@ use borrow.Author.Needs.{needs}
 use Rattle.host.proofs.answer.write.Statement.{statement}
 use Rattle.host.proofs.answer.write.Tie as tie
 
+-- the call's start
+abbrev start : tie.After-put-u32 → tie.Start
+start c = c .before .before .before
+
 -- the first two bytes written leave the length
 two : (c : tie.Start) → length (set (set (c .args .s .now) 0 (c .args .kind)) 1 (c .args .from)) ≡ length (c .args .s .now)
 two c = let a = c .args in length-set (set (a .s .now) 0 (a .kind)) 1 (a .from) ∙ length-set (a .s .now) 0 (a .kind)
@@ -21,23 +25,32 @@ put-u32-requires : tie.Need-put-u32-requires
 put-u32-requires c κs = simp length-set (omega (arith, c .before .before .pre))
 
 slice-write-s-3 : tie.Need-slice-write-s-3
-slice-write-s-3 c = omega (arith, c .before .before .put-u32 .kept .0, two (c .before .before .before .before .before), c .before .before .before .before .before .pre)
+slice-write-s-3 c = omega (arith, c .before .before .put-u32 .kept .0, two (start (c .before .before)), start (c .before .before) .pre)
 
 slice-write-s-4 : tie.Need-slice-write-s-4
-slice-write-s-4 c = simp length-set (omega (arith, c .before .before .put-u32 .kept .0, two (c .before .before .before .before .before), c .before .before .before .before .before .pre))
+slice-write-s-4 c = simp length-set (omega (arith, c .before .before .put-u32 .kept .0, two (start (c .before .before)), start (c .before .before) .pre))
 
 slice-write-s-5 : tie.Need-slice-write-s-5
-slice-write-s-5 c = simp length-set (omega (arith, c .before .before .put-u32 .kept .0, two (c .before .before .before .before .before), c .before .before .before .before .before .pre))
+slice-write-s-5 c = simp length-set (omega (arith, c .before .before .put-u32 .kept .0, two (start (c .before .before)), start (c .before .before) .pre))
 
 put-u16-requires : tie.Need-put-u16-requires
-put-u16-requires c κs = simp length-set (omega (arith, c .before .before .before .put-u32 .kept .0, two (c .before .before .before .before .before .before), c .before .before .before .before .before .before .pre))
+put-u16-requires c κs =
+    simp length-set (omega (
+      arith,
+      c .before .before .before .put-u32 .kept .0,
+      two (start (c .before .before .before)),
+      start
+          (c .before .before .before) .pre,
+    ))
 
 same-length : tie.Need-same-length
-same-length c = c .before .before .put-u16 .kept .0 ∙ simp length-set (c .before .before .before .before .before .before .put-u32 .kept .0 ∙ two (c .before .before .before .before .before .before .before .before .before))
+same-length c =
+    c .before .before .put-u16 .kept .0 ∙ simp length-set (c .before .before .before .before .before .before .put-u32 .kept .0 ∙ two
+    (start (c .before .before .before .before .before .before)))
 
 returns : tie.Need-returns
 returns c =
-    let a = c .before .before .before .before .before .before .before .before .before .args in
+    let a = start (c .before .before .before .before .before .before) .args in
     rw (c .before .before .put-u16 .ensures, c .before .before .before .before .before .before .put-u32 .ensures)
     (answer-written (a .s .now) (a .kind) (a .from) (a .number) (a .tried) (a .body) (a .extras) (a .bytes))
 

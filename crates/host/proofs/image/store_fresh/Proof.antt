@@ -7,6 +7,13 @@ use borrow.Author.Needs.{needs}
 use Rattle.host.proofs.image.store_fresh.Statement.{statement}
 use Rattle.host.proofs.image.store_fresh.Tie as tie
 
+-- the call's start
+abbrev start : tie.After-write-numbers → tie.Start
+start c = c .before .before .before .before
+
+abbrev first : tie.After-write-numbers2 → tie.After-write-numbers
+first c = c .before .before .before .before .before
+
 -- the first three bytes written leave the length
 three : (c : tie.Start) → length (set (set (set (c .args .s .now) 0 (c .args .me)) 1 (c .args .n)) 2 (c .args .cap)) ≡ length (c .args .s .now)
 three c =
@@ -32,28 +39,52 @@ slice-aggregate-write-numbers-2 : tie.Need-slice-aggregate-write-numbers-2
 slice-aggregate-write-numbers-2 c = search needs
 
 write-numbers-requires-2 : tie.Need-write-numbers-requires-2
-write-numbers-requires-2 c κs = omega (arith, c .before .before .before .before .write-numbers .kept .0, three (c .before .before .before .before .before .before .before .before), c .before .before .before .before .before .before .before .before .pre)
+write-numbers-requires-2 c κs =
+    omega (
+      arith,
+      c .before .before .before .before .write-numbers .kept .0,
+      three (start (c .before .before .before .before)),
+      start
+          (c .before .before .before .before) .pre,
+    )
 
 slice-write-s-4 : tie.Need-slice-write-s-4
-slice-write-s-4 c = omega (arith, c .before .before .write-numbers2 .kept .0, c .before .before .before .before .before .before .before .write-numbers .kept .0, three (c .before .before .before .before .before .before .before .before .before .before .before), c .before .before .before .before .before .before .before .before .before .before .before .pre)
+slice-write-s-4 c =
+    omega (
+      arith,
+      c .before .before .write-numbers2 .kept .0,
+      first (c .before .before) .write-numbers .kept .0,
+      three
+          (start (first (c .before .before))),
+      start (first (c .before .before)) .pre,
+    )
 
 write-trailer-requires : tie.Need-write-trailer-requires
 write-trailer-requires c κs =
     simp length-set
-    (omega (arith, c .before .before .before .write-numbers2 .kept .0, c .before .before .before .before .before .before .before .before .write-numbers .kept .0, three (c .before .before .before .before .before .before .before .before .before .before .before .before), c .before .before .before .before .before .before .before .before .before .before .before .before .pre))
+    (omega (
+      arith,
+      c .before .before .before .write-numbers2 .kept .0,
+      first (c .before .before .before) .write-numbers .kept .0,
+      three
+          (start (first (c .before .before .before))),
+      start (first (c .before .before .before)) .pre,
+    ))
 
 same-length : tie.Need-same-length
 same-length c =
     c .before .before .write-trailer .kept .0
-    ∙ simp length-set (c .before .before .before .before .before .before .write-numbers2 .kept .0 ∙ c .before .before .before .before .before .before .before .before .before .before .before .write-numbers .kept .0 ∙ three (c .before .before .before .before .before .before .before .before .before .before .before .before .before .before .before))
+    ∙ simp length-set (c .before .before .before .before .before .before .write-numbers2 .kept .0 ∙ first
+    (c .before .before .before .before .before .before) .write-numbers .kept .0 ∙ three (start (first (c .before .before .before .before .before .before))))
 
 returns : tie.Need-returns
 returns c =
-    let s = c .before .before .before .before .before .before .before .before .before .before .before .before .before .before .before in
+    let s = start (first (c .before .before .before .before .before .before)) in
     let a = s .args in
-    let read = laid-read (a .s .now) (λ k. c .before .before .before .before .before .before .before .before .before .before .before .before .before .before .slice-known .given k .fits) (s .pre) in
+    let read = laid-read (a .s .now) (λ k. first (c .before .before .before .before .before .before) .before .before .before .slice-known .given k .fits)
+    (s .pre) in
     let front = laid-front _ _ read (a .me) (a .n) (a .cap) in
-    let m = laid-as (c .before .before .before .before .before .before .before .before .before .before .before .write-numbers .ensures) (laid-matrix _ _ front _ refl) in
+    let m = laid-as (first (c .before .before .before .before .before .before) .write-numbers .ensures) (laid-matrix _ _ front _ refl) in
     let v = laid-as (c .before .before .before .before .before .before .write-numbers2 .ensures) (laid-vector _ _ m _ refl) in
     c .before .before .write-trailer .ensures .1 ∙ laid-sealed _ _ (laid-held _ _ v 0)
 

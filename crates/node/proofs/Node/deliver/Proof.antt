@@ -8,23 +8,34 @@ use Rattle.node.specs.CallRefusals.{Finds, deliverRefusal, shortOutputs}
 use Rattle.node.proofs.Node.deliver.Statement.{statement}
 use Rattle.node.proofs.Node.deliver.Tie as tie
 
+-- the call's start
+abbrev start : tie.After-refusal → tie.Start
+start c = c .before .before .before .before .before .before .before .before .before
+
+abbrev begun : tie.Else1 → tie.Start
+begun c = start (c .before)
+
+abbrev passed : tie.Else2 → tie.Else1
+passed c = c .before .before .before .before .before
+
 -- the arrays' lengths
 sized : (c : tie.Start) → (length (c .args .t1 .m) ≡ 144) × (length (c .args .t1 .deliv) ≡ 12)
 sized c = search needs
 
 -- the refusal
 told : (c : tie.After-refusal) → c .refusal .result
-    ≡ deliverRefusal (c .before .before .before .before .before .before .before .before .before .args .t1) (c .before .before .before .before .before .before .before .before .before .args .queue .now) (shortOutputs (length (c .before .before .before .before .before .before .before .before .before .args .out .now)) (length (c .before .before .before .before .before .before .before .before .before .args .body .now)))
-told c = let s = c .before .before .before .before .before .before .before .before .before in c .refusal .ensures ∙ ap (deliverRefusal (s .args .t1) (s .args .queue .now)) (c .before .before .before .before .before .short-outputs .ensures)
+    ≡ (let a = start c .args in deliverRefusal (a .t1) (a .queue .now) (shortOutputs (length (a .out .now)) (length (a .body .now))))
+told c = let s =
+    start c in c .refusal .ensures ∙ ap (deliverRefusal (s .args .t1) (s .args .queue .now)) (c .before .before .before .before .before .short-outputs .ensures)
 
 -- what holds once no check is met
-passed-checks : (c : tie.Else1) → Ready (c .before .before .before .before .before .before .before .before .before .before .args .t1) (c .before .before .before .before .before .before .before .before .before .before .args .queue .now) (length (c .before .before .before .before .before .before .before .before .before .before .args .out .now)) (length (c .before .before .before .before .before .before .before .before .before .before .args .body .now))
+passed-checks : (c : tie.Else1) → (let a = begun c .args in Ready (a .t1) (a .queue .now) (length (a .out .now)) (length (a .body .now)))
 passed-checks c = deliver-ready _ _ _ _ (sym (told (c .before)) ∙ c .if1 .left)
 
 -- the place found
-finds : (c : tie.Else2) → Finds (c .before .before .before .before .before .before .before .before .before .before .before .before .before .before .before .args .t1) (c .before .before .before .before .before .before .before .before .before .before .before .before .before .before .before .args .queue .now) (length (c .before .before .before .before .before .before .before .before .before .before .before .before .before .before .before .args .out .now)) (length (c .before .before .before .before .before .before .before .before .before .before .before .before .before .before .before .args .body .now))
-    (c .before .search .result)
-finds c = record { passes = sym (told (c .before .before .before .before .before .before)) ∙ c .before .before .before .before .before .if1 .left; found = c .before .search .ensures _ _ _ _; some = c .if2 .left }
+finds : (c : tie.Else2)
+    → (let a = begun (passed c) .args in Finds (a .t1) (a .queue .now) (length (a .out .now)) (length (a .body .now)) (c .before .search .result))
+finds c = record { passes = sym (told (passed c .before)) ∙ passed c .if1 .left; found = c .before .search .ensures _ _ _ _; some = c .if2 .left }
 
 short-outputs-requires : tie.Need-short-outputs-requires
 short-outputs-requires c κs = search needs
@@ -37,7 +48,7 @@ same-length c = search needs
 
 returns : tie.Need-returns
 returns c =
-    let s = c .before .before .before .before .before .before .before .before .before .before in
+    let s = start (c .before) in
     deliver-refused (s .args .t1) (s .args .queue .now) (s .args .out .now) (s .args .body .now) _ (told (c .before)) (c .if1 .taken)
 
 cast-search : tie.Need-cast-search
@@ -54,12 +65,18 @@ same-length-2 c = search needs
 
 returns-2 : tie.Need-returns-2
 returns-2 c =
-    let s = c .before .before .before .before .before .before .before .before .before .before .before .before .before .before .before in
+    let s = begun (c .before .before .before .before .before) in
     deliver-none (s .args .t1) (s .args .queue .now) (s .args .out .now) (s .args .body .now) _ (c .before .search .ensures _ _ _ _) (c .if2 .taken)
-    ∙ deliver-accepted (s .args .t1) (s .args .queue .now) (s .args .out .now) (s .args .body .now) (sym (told (c .before .before .before .before .before .before)) ∙ c .before .before .before .before .before .if1 .left)
+    ∙ deliver-accepted (s .args .t1) (s .args .queue .now) (s .args .out .now) (s .args .body .now)
+    (sym (told (c .before .before .before .before .before .before)) ∙ c .before .before .before .before .before .if1 .left)
 
 take-requires : tie.Need-take-requires
-take-requires c κs = record { deliv = c .before .before .before .before .before .before .before .before .before .before .before .before .before .before .before .before .before .before .before .args .t1 .deliv; cells = sized (c .before .before .before .before .before .before .before .before .before .before .before .before .before .before .before .before .before .before .before) .0; finds = finds (c .before .before .before .before) }
+take-requires c κs = record {
+  deliv = begun (passed (c .before .before .before .before)) .args .t1 .deliv;
+  cells = sized (begun (passed (c .before .before .before .before))) .0;
+  finds =
+      finds (c .before .before .before .before);
+}
 
 cast-count-up : tie.Need-cast-count-up
 cast-count-up c = search needs
@@ -67,11 +84,11 @@ cast-count-up c = search needs
 count-up-requires : tie.Need-count-up-requires
 count-up-requires c κs =
     let from = c .before .before .before .before .before .before .before .before .take .ensures .0 in
-    (sized (c .before .before .before .before .before .before .before .before .before .before .before .before .before .before .before .before .before .before .before .before .before .before .before .before .before .before .before .before) .1, from, passed-checks (c .before .before .before .before .before .before .before .before .before .before .before .before .before .before .before .before .before .before) .sound .vectorLimit _ from)
+    (sized (begun (passed (c .before .before .before .before .before .before .before .before .before .before .before .before .before))) .1, from, passed-checks (passed (c .before .before .before .before .before .before .before .before .before .before .before .before .before)) .sound .vectorLimit _ from)
 
 sub-self : tie.Need-sub-self
 sub-self c =
-    let s = c .before .before .before .before .before .before .before .before .before .before .before .before .before .before .before .before .before .before .before .before .before .before .before .before .before .before .before .before .before in
+    let s = begun (passed (c .before .before .before .before .before .before .before .before .before .before .before .before .before .before)) in
     let f = finds (c .before .before .before .before .before .before .before .before .before .before .before .before .before .before) in
     omega (arith, place-held (s .args .t1) (s .args .queue .now) _ (f .found) (f .some))
 
@@ -85,7 +102,9 @@ same-length-5 : tie.Need-same-length-5
 same-length-5 c = search needs
 
 returns-3 : tie.Need-returns-3
-returns-3 c = rw (c .count-up .ensures) (c .before .before .before .before .before .before .before .before .before .take .ensures .2 _ (finds (c .before .before .before .before .before .before .before .before .before .before .before .before .before .before)))
+returns-3 c =
+    rw (c .count-up .ensures) (c .before .before .before .before .before .before .before .before .before .take .ensures .2 _
+    (finds (c .before .before .before .before .before .before .before .before .before .before .before .before .before .before)))
 
 pub deliver-spec : {M : Type 1} → statement M
 deliver-spec =

@@ -7,13 +7,20 @@ use Rattle.node.specs.CallRefusals.{offerRefusal}
 use Rattle.node.proofs.Node.offer.Statement.{statement}
 use Rattle.node.proofs.Node.offer.Tie as tie
 
+-- the call's start
+abbrev start : tie.After-judge → tie.Start
+start c = c .before .before .before .before .before .before .before
+
+abbrev judged : tie.Else1 → tie.After-judge
+judged c = c .before .before
+
 -- the refusal of the offer
-told : (c : tie.After-judge) → c .judge .result .why ≡ offerRefusal (c .before .before .before .before .before .before .before .args .t1) (c .before .before .before .before .before .before .before .args .frame .now) (c .before .before .before .before .before .before .before .args .queue .now)
-told c = let s = c .before .before .before .before .before .before .before in c .judge .ensures .0 ∙ take-offer (s .args .t1) (s .args .frame .now) (s .args .queue .now)
+told : (c : tie.After-judge) → c .judge .result .why ≡ (let a = start c .args in offerRefusal (a .t1) (a .frame .now) (a .queue .now))
+told c = let s = start c in c .judge .ensures .0 ∙ take-offer (s .args .t1) (s .args .frame .now) (s .args .queue .now)
 
 -- there is a free slot once no check is met
-free : (c : tie.Else1) → Holdable (c .before .before .before .before .before .before .before .before .before .args .t1) (c .before .before .before .before .before .before .before .before .before .args .frame .now) (c .before .before .before .before .before .before .before .before .before .args .queue .now)
-free c = offerable _ _ _ (sym (told (c .before .before)) ∙ c .if1 .left) .holdable
+free : (c : tie.Else1) → (let a = start (judged c) .args in Holdable (a .t1) (a .frame .now) (a .queue .now))
+free c = offerable _ _ _ (sym (told (judged c)) ∙ c .if1 .left) .holdable
 
 judge-requires : tie.Need-judge-requires
 judge-requires c κs = search needs
@@ -23,7 +30,7 @@ same-length c = search needs
 
 returns : tie.Need-returns
 returns c =
-    let s = c .before .before .before .before .before .before .before .before .before in
+    let s = start (c .before .before) in
     offer-refused (s .args .t1) (s .args .frame .now) (s .args .queue .now) _ (told (c .before .before)) (c .if1 .taken)
 
 cast-hold : tie.Need-cast-hold
@@ -46,10 +53,11 @@ same-length-2 c = search needs
 
 returns-2 : tie.Need-returns-2
 returns-2 c =
-    let j = c .before .before .before .before .before .before in
-    let s = c .before .before .before .before .before .before .before .before .before .before .before .before .before in
+    let j = judged (c .before .before .before .before) in
+    let s = start (judged (c .before .before .before .before)) in
     let r = s .args .t1 in
-    offer-leaves r (s .args .frame .now) (s .args .queue .now) _ _ _ (c .before .before .hold .ensures) (j .judge .ensures .1 (c .before .before .before .before .if1 .left)) refl
+    offer-leaves r (s .args .frame .now) (s .args .queue .now) _ _ _ (c .before .before .hold .ensures)
+    (j .judge .ensures .1 (c .before .before .before .before .if1 .left)) refl
     ∙ offer-accepted r (s .args .frame .now) (s .args .queue .now) (sym (told j) ∙ c .before .before .before .before .if1 .left)
 
 pub offer-spec : {M : Type 1} → statement M

@@ -33,7 +33,8 @@ returns-2 : tie.Need-returns-2
 returns-2 c =
     let s = c .before .before .before .before .before .before .before .before .before .before .before .before .before in
     c .before .before .before .issue .ensures _ _
-    ∙ send-accepted (s .args .t1) (s .args .to) (s .args .body .now) (s .args .out .now) (sym (c .before .before .before .before .before .before .before .refusal .ensures) ∙ c .before .before .before .before .before .before .if1 .left)
+    ∙ send-accepted (s .args .t1) (s .args .to) (s .args .body .now) (s .args .out .now)
+    (sym (c .before .before .before .before .before .before .before .refusal .ensures) ∙ c .before .before .before .before .before .before .if1 .left)
 
 pub send-spec : {M : Type 1} → statement M
 send-spec =

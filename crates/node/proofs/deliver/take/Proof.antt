@@ -12,6 +12,10 @@ use Rattle.node.specs.declared.Node.{Node as Record}
 use Rattle.node.proofs.deliver.take.Statement.{statement}
 use Rattle.node.proofs.deliver.take.Tie as tie
 
+-- the call's start
+abbrev start : tie.After-frame-end → tie.Start
+start c = c .before .before .before .before .before
+
 -- a record of this node at which the frame is found
 abbrev finder : tie.Start → Record
 finder c =
@@ -26,8 +30,8 @@ ready c = deliver-ready _ _ _ _ (c .pre .finds .passes)
 within : (c : tie.Start) → c .args .place - 1 < c .args .held
 within c = place-held (finder c) (c .args .queue .now) _ (c .pre .finds .found) (c .pre .finds .some)
 
-part : (c : tie.After-frame-end) → HeldPart (c .before .before .before .before .before .args .queue .now) (c .before .before .before .before .before .args .place - 1) (c .frame-end .result)
-part c = let s = c .before .before .before .before .before in found-part (ready s) _ (s .pre .finds .found) (s .pre .finds .some) _ (c .frame-end .ensures)
+part : (c : tie.After-frame-end) → HeldPart (start c .args .queue .now) (start c .args .place - 1) (c .frame-end .result)
+part c = let s = start c in found-part (ready s) _ (s .pre .finds .found) (s .pre .finds .some) _ (c .frame-end .ensures)
 
 sender : (c : tie.After-take-in) → c .take-in .result .from < 12
 sender c = let p = part (c .before .before .before .before .before .before) in rw (c .take-in .ensures .0, p .same) (from-below _ (p .checked))
@@ -56,8 +60,8 @@ part-take-in-end c = omega (arith, part (c .before) .inside)
 take-in-requires : tie.Need-take-in-requires
 take-in-requires c κs =
     let p = part (c .before .before .before .before .before) in
-    let k = ready (c .before .before .before .before .before .before .before .before .before .before) in (
-      c .before .before .before .before .before .before .before .before .before .before .pre .cells,
+    let k = ready (start (c .before .before .before .before .before)) in (
+      start (c .before .before .before .before .before) .pre .cells,
       rw (p .same) (p .checked),
       omega (arith, k .sound .range .below, k .sound .range .atMost12),
       omega (arith, k .long),
@@ -67,7 +71,7 @@ take-in-requires c κs =
 
 remove-requires : tie.Need-remove-requires
 remove-requires c κs =
-    let s = c .before .before .before .before .before .before .before .before .before .before .before .before .before .before .before .before in
+    let s = start (c .before .before .before .before .before .before .before .before .before .before .before) in
     let k = ready s in
     (k .queue .size, k .queue .most, within s, k .layout)
 
@@ -82,14 +86,15 @@ same-length-3 c = search needs
 
 returns : tie.Need-returns
 returns c =
-    let s = c .before .before .before .before .before .before .before .before .before .before .before .before .before .before .before .before .before .before .before in
+    let s = start (c .before .before .before .before .before .before .before .before .before .before .before .before .before .before) in
     let a = s .args in
     let t = c .before .before .before .before .before .before .before .before in (
       sender t,
       ap length (t .take-in .ensures .1) ∙ length-flat _,
       λ v f.
           let r : Record = record { me = a .me; n = a .n; cap = a .cap; m = a .m .now; deliv = v; held = a .held } in
-          deliver-leaves r (a .queue .now) (a .out .now) (a .body .now) _ (f .found) (f .some) _ _ _ _ _ _ _ (part (c .before .before .before .before .before .before .before .before .before .before .before .before .before .before) .same)
+          deliver-leaves r (a .queue .now) (a .out .now) (a .body .now) _ (f .found) (f .some) _ _ _ _ _ _ _
+          (part (c .before .before .before .before .before .before .before .before .before .before .before .before .before .before) .same)
           (t .take-in .ensures) refl (c .before .before .remove .ensures)
           ∙ deliver-accepted r (a .queue .now) (a .out .now) (a .body .now) (f .passes),
     )

@@ -8,6 +8,13 @@ use Rattle.node.specs.declared.Node.{Node as Record}
 use Rattle.node.proofs.offer.judge.Statement.{statement}
 use Rattle.node.proofs.offer.judge.Tie as tie
 
+-- the call's start
+abbrev start : tie.Else1 → tie.Start
+start c = c .before .before .before .before
+
+abbrev passed : tie.Else2 → tie.Else1
+passed c = c .before .before
+
 -- the record of the lent arrays and numbers
 abbrev here : tie.Start → Record
 here c =
@@ -15,11 +22,11 @@ here c =
     record { me = a .me; n = a .n; cap = a .cap; m = a .m .now; deliv = a .deliv .now; held = a .held }
 
 -- what record and queue keep once their checks are passed
-kept : (c : tie.Else1) → RecordPassed (here (c .before .before .before .before)) (c .before .before .before .before .args .queue .now) (c .before .before .before .before .args .short)
+kept : (c : tie.Else1) → RecordPassed (here (start c)) (start c .args .queue .now) (start c .args .short)
 kept c = record-passed _ _ _ _ (sym (c .before .record-refusal .ensures) ∙ c .if1 .left)
 
 -- the frame is sound once its checks are passed
-sound : (c : tie.Else2) → frameRefusal (c .before .before .before .before .before .before .args .n) (c .before .before .before .before .before .before .args .cap) (c .before .before .before .before .before .before .args .frame .now) ≡ 0
+sound : (c : tie.Else2) → (let a = start (passed c) .args in frameRefusal (a .n) (a .cap) (a .frame .now) ≡ 0)
 sound c = sym (c .before .refusal .ensures) ∙ c .if2 .left
 
 record-refusal-requires : tie.Need-record-refusal-requires
@@ -33,21 +40,21 @@ refusal-requires c κs = search needs
 
 returns-2 : tie.Need-returns-2
 returns-2 c =
-    let s = c .before .before .before .before .before .before in
+    let s = start (c .before .before) in
     (take-frame (here s) _ _ _ (kept (c .before .before)) _ (c .before .refusal .ensures) (c .if2 .taken), λ z. absurd (c .if2 .taken z))
 
 hold-refusal-requires : tie.Need-hold-refusal-requires
 hold-refusal-requires c κs =
-    let s = c .before .before .before .before .before .before in (
-      checked-queue (here s) (s .args .queue .now) (s .args .short) (kept (c .before .before)),
-      record { n = s .args .n; cap = s .args .cap; few = kept (c .before .before) .sound .range .atMost12; passes = sound c },
+    let s = start (passed c) in (
+      checked-queue (here s) (s .args .queue .now) (s .args .short) (kept (passed c)),
+      record { n = s .args .n; cap = s .args .cap; few = kept (passed c) .sound .range .atMost12; passes = sound c },
     )
 
 returns-3 : tie.Need-returns-3
 returns-3 c =
-    let s = c .before .before .before .before .before .before .before in
+    let s = start (passed (c .before)) in
     let w = c .hold-refusal .ensures (s .args .n) (s .args .cap) in
-    (w .0 ∙ sym (take-hold (here s) _ _ _ (kept (c .before .before .before)) (sound (c .before))), w .1)
+    (w .0 ∙ sym (take-hold (here s) _ _ _ (kept (passed (c .before))) (sound (c .before))), w .1)
 
 pub judge-spec : {M : Type 1} → statement M
 judge-spec =
