@@ -10,6 +10,8 @@ pub mod draft;
 pub mod event;
 pub mod frame;
 pub mod history;
+pub mod host;
+pub mod image;
 pub mod list;
 pub mod load;
 pub mod node;

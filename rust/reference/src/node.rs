@@ -62,16 +62,22 @@ pub fn set_up(me: usize, n: usize, cap: usize) -> (Result<(), Refusal>, Record) 
     }
 }
 
-/// Send from me to a destination: the frame carries every non-zero entry of M, column to is treated, then trim.
+/// Send from me to a destination.
 pub fn send(mut record: Record, to: usize, body: &[u8], out: &mut [u8]) -> (SendAnswer, Record) {
-    if let Err(number) = check_send(&record, to, body, out) {
-        return (SendAnswer::Refused(number), record);
+    (send_on(&mut record, to, body, out), record)
+}
+
+/// Send on a record where it stands, which a refusal leaves: the frame carries every non-zero entry of M, column to is
+/// treated, then trim.
+pub fn send_on(record: &mut Record, to: usize, body: &[u8], out: &mut [u8]) -> SendAnswer {
+    if let Err(number) = check_send(record, to, body, out) {
+        return SendAnswer::Refused(number);
     }
     let mut output = Output::new(out);
-    output.issue_user(&record, to, body);
+    output.issue_user(record, to, body);
     record.count_issue(to);
-    let extras = trim(&mut record, &mut output);
-    (SendAnswer::Sent { bytes: output.written(), extras }, record)
+    let extras = trim(record, &mut output);
+    SendAnswer::Sent { bytes: output.written(), extras }
 }
 
 /// Send checks 2, 3, 5–7.
@@ -95,14 +101,19 @@ fn trim(record: &mut Record, output: &mut Output) -> usize {
     extras
 }
 
-/// Offer of a frame: it is checked and held.
+/// Offer of a frame.
 pub fn offer(mut record: Record, frame: &[u8], shelf: &mut [u8]) -> (OfferAnswer, Record) {
-    match check_offer(&record, frame, shelf) {
-        Err(number) => (OfferAnswer::Refused(number), record),
+    (offer_on(&mut record, frame, shelf), record)
+}
+
+/// Offer on a record where it stands, which a refusal leaves: the frame is checked and held.
+pub fn offer_on(record: &mut Record, frame: &[u8], shelf: &mut [u8]) -> OfferAnswer {
+    match check_offer(record, frame, shelf) {
+        Err(number) => OfferAnswer::Refused(number),
         Ok(deliverable) => {
             shelf::hold(shelf, record.held as usize, frame);
             record.held += 1;
-            (OfferAnswer::Held { held: record.held as usize, deliverable }, record)
+            OfferAnswer::Held { held: record.held as usize, deliverable }
         }
     }
 }
@@ -122,20 +133,26 @@ fn check_offer(record: &Record, frame: &[u8], shelf: &[u8]) -> Result<bool, Refu
     Ok(deliverable)
 }
 
-/// Deliver: the held frames are tried in the order in which they were held, and the first deliverable one is removed.
+/// Deliver the first held frame that is deliverable.
 pub fn deliver(mut record: Record, shelf: &mut [u8], out: &mut [u8], body_out: &mut [u8]) -> (DeliverAnswer, Record) {
-    if let Err(number) = check_deliver(&record, shelf, out, body_out) {
-        return (DeliverAnswer::Refused(number), record);
+    (deliver_on(&mut record, shelf, out, body_out), record)
+}
+
+/// Deliver on a record where it stands, which a refusal leaves: the held frames are tried in the order in which they
+/// were held, and the first deliverable one is removed.
+pub fn deliver_on(record: &mut Record, shelf: &mut [u8], out: &mut [u8], body_out: &mut [u8]) -> DeliverAnswer {
+    if let Err(number) = check_deliver(record, shelf, out, body_out) {
+        return DeliverAnswer::Refused(number);
     }
     let held = record.held as usize;
     let first = shelf::frames(shelf, held).enumerate().find(|(_, frame)| frame.is_deliverable(&record.deliv));
     let Some((index, frame)) = first else {
-        return (DeliverAnswer::None { looked: held }, record);
+        return DeliverAnswer::None { looked: held };
     };
-    let delivery = take(&mut record, frame, index + 1, out, body_out);
+    let delivery = take(record, frame, index + 1, out, body_out);
     shelf::remove(shelf, held, index);
     record.held -= 1;
-    (DeliverAnswer::Delivered(delivery), record)
+    DeliverAnswer::Delivered(delivery)
 }
 
 /// Deliver checks 2–5.

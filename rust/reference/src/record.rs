@@ -1,4 +1,4 @@
-//! The node's record, its rules and its 628-byte image.
+//! The node's record and its rules.
 
 use crate::frame::Entry;
 use crate::Refusal;
@@ -19,13 +19,6 @@ pub struct Record {
     /// The number of held frames.
     pub held: u8,
 }
-
-/// Bytes of a record's image.
-pub const IMAGE: usize = 628;
-/// Where M starts in an image.
-const IMAGE_M: usize = 3;
-/// Where DELIV starts in an image.
-const IMAGE_DELIV: usize = IMAGE_M + 4 * 144;
 
 impl Record {
     /// n is at most this.
@@ -142,41 +135,9 @@ impl Record {
         let row = &self.m[start..start + Record::NODES];
         row.contains(&Record::COUNT) || self.deliv.contains(&Record::COUNT)
     }
-
-    /// The record's fields in their order: me, n, cap, M, DELIV, held.
-    pub fn to_image(&self) -> [u8; IMAGE] {
-        let mut image = [0; IMAGE];
-        image[..IMAGE_M].copy_from_slice(&[self.me, self.n, self.cap]);
-        write_numbers(&mut image[IMAGE_M..IMAGE_DELIV], &self.m);
-        write_numbers(&mut image[IMAGE_DELIV..IMAGE - 1], &self.deliv);
-        image[IMAGE - 1] = self.held;
-        image
-    }
-
-    /// The record whose image this is.
-    pub fn from_image(image: &[u8; IMAGE]) -> Record {
-        let mut record = Record { me: image[0], n: image[1], cap: image[2], held: image[IMAGE - 1], ..Record::ZERO };
-        read_numbers(&image[IMAGE_M..IMAGE_DELIV], &mut record.m);
-        read_numbers(&image[IMAGE_DELIV..IMAGE - 1], &mut record.deliv);
-        record
-    }
 }
 
 /// n is 2 to 12, me is below n, and cap is n to n × n.
 pub fn in_range(me: usize, n: usize, cap: usize) -> bool {
     (2..=Record::NODES).contains(&n) && me < n && (n..=n * n).contains(&cap)
-}
-
-/// Writes numbers of four bytes, little-endian, end to end.
-fn write_numbers(bytes: &mut [u8], numbers: &[u32]) {
-    for (four, number) in bytes.chunks_exact_mut(4).zip(numbers) {
-        four.copy_from_slice(&number.to_le_bytes());
-    }
-}
-
-/// Reads numbers of four bytes, little-endian, end to end.
-fn read_numbers(bytes: &[u8], numbers: &mut [u32]) {
-    for (four, number) in bytes.chunks_exact(4).zip(numbers) {
-        *number = u32::from_le_bytes([four[0], four[1], four[2], four[3]]);
-    }
 }

@@ -131,19 +131,3 @@ fn a_later_place_is_delivered_first_and_the_rest_moves_down() {
     assert_eq!((answer, after), (DeliverAnswer::None { looked: 2 }, record));
     assert_eq!(shelf, left);
 }
-
-#[test]
-fn images_have_their_fields_in_order() {
-    let record = with(1, 3, 4, &[(0, 2, 0x01020304), (2, 0, 5)], &[(2, 0x0A0B)]);
-    let record = Record { held: 9, ..record };
-    let image = record.to_image();
-    assert_eq!(image.len(), 628);
-    assert_eq!(image[..3], [1, 3, 4]);
-    assert_eq!(image[3 + 8..3 + 12], [4, 3, 2, 1]);
-    assert_eq!(image[3 + 96], 5);
-    assert_eq!(image[579 + 8..579 + 12], [0x0B, 0x0A, 0, 0]);
-    assert_eq!(image[627], 9);
-    assert_eq!(Record::from_image(&image), record);
-    let bytes: [u8; 628] = core::array::from_fn(|index| (index * 37 + index / 7) as u8);
-    assert_eq!(Record::from_image(&bytes).to_image(), bytes);
-}
