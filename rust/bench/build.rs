@@ -1,8 +1,12 @@
-//! With the feature `before`, links the deliver of an earlier archive and the present one as `before_deliver` and
-//! `after_deliver`, both placed alike: where a function begins can change its time by more than the change that is timed.
+//! With the feature `before`, links the node's calls of an earlier archive and of the present one under names of their
+//! own, as `before_send` and `after_send`, both placed alike: where a function begins can change its time by more than
+//! the change that is timed.
 
 use std::path::{Path, PathBuf};
 use std::process::Command;
+
+/// The calls that are compared.
+const CALLS: [&str; 4] = ["set_up", "send", "offer", "deliver"];
 
 fn main() {
     println!("cargo:rerun-if-env-changed=BEFORE");
@@ -10,7 +14,7 @@ fn main() {
         return;
     }
     let before = PathBuf::from(variable("BEFORE"));
-    let after = Path::new(&variable("CARGO_MANIFEST_DIR")).join("../../target/staticlib/libnode_c.a");
+    let after = Path::new(&variable("CARGO_MANIFEST_DIR")).join("../../target/staticlib/libhost.a");
     let folder = PathBuf::from(variable("OUT_DIR"));
     println!("cargo:rustc-link-search=native={}", folder.display());
     for (name, archive) in [("before", before), ("after", after)] {
@@ -25,14 +29,14 @@ fn variable(name: &str) -> String {
     std::env::var(name).unwrap_or_else(|_| panic!("{name} is not set (BEFORE names an earlier libnode_c.a)"))
 }
 
-/// Copies an archive with its functions on lines of the cache, `node_deliver` renamed and every other function hidden.
+/// Copies an archive with its functions on lines of the cache, the node's calls renamed and every other function hidden.
 fn rename(name: &str, archive: &Path, copy: &Path) {
-    let status = Command::new("objcopy")
-        .arg("--set-section-alignment=.text.*=64")
-        .arg(format!("--redefine-sym=node_deliver={name}_deliver"))
-        .arg(format!("--keep-global-symbol={name}_deliver"))
-        .args([archive, copy])
-        .status()
-        .expect("objcopy runs (it comes with the linker, in binutils)");
+    let mut objcopy = Command::new("objcopy");
+    objcopy.arg("--set-section-alignment=.text.*=64");
+    for call in CALLS {
+        objcopy.arg(format!("--redefine-sym=node_{call}={name}_{call}"));
+        objcopy.arg(format!("--keep-global-symbol={name}_{call}"));
+    }
+    let status = objcopy.args([archive, copy]).status().expect("objcopy runs (it comes with the linker, in binutils)");
     assert!(status.success(), "objcopy cannot copy {}", archive.display());
 }

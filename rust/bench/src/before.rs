@@ -1,53 +1,112 @@
-//! Deliver before and after a change, on the same states in one run (feature `before`).
+//! The calls before the image had its trailer and after, on the same states in one run (feature `before`).
+//!
+//! The earlier archive is a `libnode_c.a`: an image of 628 bytes as an array, and the answer in lent numbers.
 
-use crate::measure::{is_wanted, median};
-use crate::states::State;
-use crate::{round, Bench, Side, COPIES, ROUNDS, WARM_UP};
+use crate::calls::{same_buffers, time, Bench, Side};
+use crate::rows::{rows, Call};
+use reference::image::FIELDS;
 
-/// A deliver as `node_c` exports it: image, queue, frame output and body output with their lengths, values.
-type Deliver = unsafe extern "C" fn(*mut u8, *mut u8, usize, *mut u8, usize, *mut u8, usize, *mut u32) -> u8;
-
-/// An answer: 0 or the refusal, and the values.
-type Answer = (u8, [u32; linked::lent::DELIVER_VALUES]);
+/// Numbers of the earlier answers: send and offer have two, deliver seven.
+const VALUES: usize = 7;
 
 extern "C" {
-    fn before_deliver(_: *mut u8, _: *mut u8, _: usize, _: *mut u8, _: usize, _: *mut u8, _: usize, _: *mut u32) -> u8;
-    fn after_deliver(_: *mut u8, _: *mut u8, _: usize, _: *mut u8, _: usize, _: *mut u8, _: usize, _: *mut u32) -> u8;
+    fn before_set_up(image: *mut u8, me: usize, n: usize, cap: usize) -> u8;
+    fn before_send(_: *mut u8, to: usize, _: *const u8, _: usize, _: *mut u8, _: usize, values: *mut u32) -> u8;
+    fn before_offer(_: *mut u8, _: *const u8, _: usize, _: *mut u8, _: usize, values: *mut u32) -> u8;
+    fn before_deliver(
+        image: *mut u8,
+        queue: *mut u8,
+        queue_length: usize,
+        out: *mut u8,
+        out_length: usize,
+        body: *mut u8,
+        body_length: usize,
+        values: *mut u32,
+    ) -> u8;
+
+    fn after_set_up(_: *mut u8, _: usize, me: usize, n: usize, cap: usize) -> u8;
+    fn after_send(
+        image: *mut u8,
+        image_length: usize,
+        to: usize,
+        body: *const u8,
+        body_length: usize,
+        out: *mut u8,
+        out_length: usize,
+        answer: *mut u8,
+        answer_length: usize,
+    ) -> u8;
+    fn after_offer(
+        image: *mut u8,
+        image_length: usize,
+        frame: *const u8,
+        frame_length: usize,
+        queue: *mut u8,
+        queue_length: usize,
+        answer: *mut u8,
+        answer_length: usize,
+    ) -> u8;
+    fn after_deliver(
+        image: *mut u8,
+        image_length: usize,
+        queue: *mut u8,
+        queue_length: usize,
+        out: *mut u8,
+        out_length: usize,
+        body: *mut u8,
+        body_length: usize,
+        answer: *mut u8,
+        answer_length: usize,
+    ) -> u8;
 }
 
-/// A call; like `node_c`'s others these require nothing and stay inside what they are lent.
-fn call(deliver: Deliver, b: &mut Bench) -> Answer {
-    let mut values = [0; linked::lent::DELIVER_VALUES];
-    let (image, queue, out, body) = (&mut b.image, &mut b.shelf, &mut b.out, &mut b.body);
-    let (queue_length, out_length, body_length) = (queue.len(), out.len(), body.len());
-    let (queue, out, body) = (queue.as_mut_ptr(), out.as_mut_ptr(), body.as_mut_ptr());
-    let lent = values.as_mut_ptr();
-    let number = unsafe { deliver(image.as_mut_ptr(), queue, queue_length, out, out_length, body, body_length, lent) };
-    (number, values)
+// SAFETY, of every call below: as in `host::lent`, the functions require nothing and stay inside what they are lent.
+
+/// A call of the earlier archive.
+fn before(call: &Call, bench: &mut Bench) -> u8 {
+    let mut values = [0; VALUES];
+    let (image, values) = (bench.image.as_mut_ptr(), values.as_mut_ptr());
+    let [shelf, out, body] = [&mut bench.shelf, &mut bench.out, &mut bench.body].map(|b| (b.as_mut_ptr(), b.len()));
+    match call {
+        Call::SetUp { me, n, cap } => unsafe { before_set_up(image, *me, *n, *cap) },
+        Call::Send { body } => unsafe { before_send(image, 1, body.as_ptr(), body.len(), out.0, out.1, values) },
+        Call::Offer { frame } => unsafe { before_offer(image, frame.as_ptr(), frame.len(), shelf.0, shelf.1, values) },
+        Call::Deliver => unsafe { before_deliver(image, shelf.0, shelf.1, out.0, out.1, body.0, body.1, values) },
+    }
 }
 
-/// One row, where both answer alike and leave the same bytes; which goes first changes from round to round.
-pub fn row(name: &str, states: &[State]) {
-    if !is_wanted(name) {
-        return;
+/// A call of the present archive, placed as the earlier one is.
+fn after(call: &Call, bench: &mut Bench) -> u8 {
+    let [shelf, out, body] = [&mut bench.shelf, &mut bench.out, &mut bench.body].map(|b| (b.as_mut_ptr(), b.len()));
+    let (image, answer) = ((bench.image.as_mut_ptr(), bench.image.len()), &mut bench.answer);
+    let answer = (answer.as_mut_ptr(), answer.len());
+    match call {
+        Call::SetUp { me, n, cap } => unsafe { after_set_up(image.0, image.1, *me, *n, *cap) },
+        Call::Send { body } => unsafe {
+            after_send(image.0, image.1, 1, body.as_ptr(), body.len(), out.0, out.1, answer.0, answer.1)
+        },
+        Call::Offer { frame } => unsafe {
+            after_offer(image.0, image.1, frame.as_ptr(), frame.len(), shelf.0, shelf.1, answer.0, answer.1)
+        },
+        Call::Deliver => unsafe {
+            after_deliver(image.0, image.1, shelf.0, shelf.1, out.0, out.1, body.0, body.1, answer.0, answer.1)
+        },
     }
-    let delivers: [Deliver; 2] = [before_deliver, after_deliver];
-    for state in states {
-        let mut copies = delivers.map(|_| Bench::new(state));
-        assert_eq!(call(delivers[0], &mut copies[0]), call(delivers[1], &mut copies[1]), "{name}");
-        assert!(copies[0].left() == copies[1].left(), "{name}: the two leave different bytes");
-    }
-    let sides: [Side; 2] = delivers.map(|deliver| Box::new(move |b: &mut Bench| call(deliver, b).0) as Side);
-    let mut copies = vec![Bench::new(&states[0]); COPIES];
-    let mut times = [Vec::new(), Vec::new()];
-    for turn in 0..WARM_UP + ROUNDS {
-        for place in [turn % 2, (turn + 1) % 2] {
-            let time = round(&mut copies, states, turn, &sides[place]);
-            if turn >= WARM_UP {
-                times[place].push(time);
-            }
+}
+
+/// Whether both left the same fields and buffers.
+fn alike(before: &Bench, after: &Bench) -> bool {
+    before.image[..FIELDS] == after.image[..FIELDS] && same_buffers(before, after)
+}
+
+/// Every row, before and after.
+pub fn table() {
+    println!("\n| call | before | after | ratio |");
+    println!("|---|---|---|---|");
+    let sides: [Side; 2] = [before, after];
+    for row in [4, 12].into_iter().flat_map(rows) {
+        if let Some([before, after]) = time(&row, sides, alike) {
+            println!("| {} | {before:.0} | {after:.0} | {:.3} |", row.name, after / before);
         }
     }
-    let [before, after] = times.map(median);
-    println!("| {name} | {before:.0} | {after:.0} | {:.3} |", after / before);
 }

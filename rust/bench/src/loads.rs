@@ -1,7 +1,7 @@
 //! The whole load, a line in and the table out, on both sides in turn.
 
 use crate::measure::{is_wanted, row, ROUNDS};
-use linked::load::OUTPUT;
+use load_c::OUTPUT;
 use std::hint::black_box;
 
 /// The seed of the loads.
@@ -27,7 +27,7 @@ fn load_row(n: usize) {
     }
     let input = format!("{n} {SEED} {DRAWS}\n").into_bytes();
     let mut out = vec![0; OUTPUT];
-    let count = linked::load(&input, &mut out);
+    let count = load_c::load(&input, &mut out);
     assert!(out[..count] == reference::load(&input), "{name}: the sides print different tables");
-    row(&name, || linked::load(black_box(&input), &mut out), || reference::load(black_box(&input)));
+    row(&name, || load_c::load(black_box(&input), &mut out), || reference::load(black_box(&input)));
 }

@@ -1,6 +1,7 @@
 //! The trail: frames written one on another from an empty file, and the whole walk back, on both sides in turn.
 
 use crate::measure::{is_wanted, row, ROUNDS};
+use host::Refusal;
 use reference::draft::Draft;
 use reference::frame::{EXTRA, USER};
 use reference::random::Random;
@@ -69,8 +70,8 @@ fn walk_row(frames: &[Vec<u8>], w: usize) -> Option<Times> {
     if !is_wanted(&name) {
         return None;
     }
-    assert_eq!(linked::trail::largest(&file, w), trail::walk(&file, w), "{name}");
-    Some(row(&name, || linked::trail::largest(black_box(&file), w), || trail::walk(black_box(&file), w)))
+    assert_eq!(host::trail::largest(&file, w).map_err(Refusal::number), trail::walk(&file, w), "{name}");
+    Some(row(&name, || host::trail::largest(black_box(&file), w), || trail::walk(black_box(&file), w)))
 }
 
 /// One row: the writing of both sides, which must leave the same bytes.
@@ -89,7 +90,7 @@ fn write_row(frames: &[Vec<u8>]) {
 /// Writes the frames on from an empty file; the number in use in the end.
 fn write_proved(file: &mut [u8], frames: &[Vec<u8>]) -> usize {
     let mut used = 0;
-    frames.iter().for_each(|frame| linked::trail::write(file, &mut used, frame).expect("a sound frame with room"));
+    frames.iter().for_each(|frame| host::trail::write(file, &mut used, frame).expect("a sound frame with room"));
     used
 }
 

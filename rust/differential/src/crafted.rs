@@ -1,7 +1,7 @@
 //! Cases whose counts stand at and around 1,000,000,000: in M, in DELIV, and in the entries of the offered and held frames.
 
 use generate::shelves::frame_at;
-use generate::{Call, Case, Generator};
+use generate::{images, Call, Case, Generator};
 use reference::draft::{repair, Draft};
 use reference::frame::Frame;
 use reference::random::Random;
@@ -40,9 +40,10 @@ impl Crafted {
             1 | 2 => self.generator.offer(),
             _ => self.generator.deliver(),
         };
-        let record = &mut case.record;
-        raise(&mut self.random, &mut record.m);
-        raise(&mut self.random, &mut record.deliv);
+        images::change(&mut case.image, |record| {
+            raise(&mut self.random, &mut record.m);
+            raise(&mut self.random, &mut record.deliv);
+        });
         if let Call::Offer { frame } = &mut case.call {
             raise_entries(&mut self.random, frame);
         }

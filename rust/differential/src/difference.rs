@@ -27,14 +27,20 @@ impl Display for Difference {
         writeln!(f, "DIFFERENCE in {}", self.case.call.name())?;
         self.parts.iter().try_for_each(|part| writeln!(f, "  {part}"))?;
         writeln!(f, "the case:")?;
-        write_record(f, &self.case.record)?;
+        write_image(f, &self.case)?;
         write_call(f, &self.case.call)?;
         write_buffers(f, &self.case.buffers)
     }
 }
 
-/// The record, its non-zero counts alone.
-fn write_record(f: &mut Formatter<'_>, record: &Record) -> fmt::Result {
+/// How the image was made, and its bytes; of one of 632 bytes also its record, the non-zero counts alone.
+fn write_image(f: &mut Formatter<'_>, case: &Case) -> fmt::Result {
+    let Case { image, made, .. } = case;
+    writeln!(f, "  image of {}, {made:?}: {}", image.len(), hex(image))?;
+    let Ok(image) = image[..].try_into() else {
+        return Ok(());
+    };
+    let record = Record::from_fields(image);
     let counts = |counts: &[u32]| -> Vec<(usize, u32)> {
         counts.iter().copied().enumerate().filter(|(_, count)| *count != 0).collect()
     };
@@ -63,8 +69,10 @@ fn write_call(f: &mut Formatter<'_>, call: &Call) -> fmt::Result {
 
 /// The lent buffers as they were before the call.
 fn write_buffers(f: &mut Formatter<'_>, buffers: &Buffers) -> fmt::Result {
-    let Buffers { shelf, out, body_out, file } = buffers;
-    for (name, bytes) in [("shelf", shelf), ("frame output", out), ("body output", body_out), ("file", file)] {
+    let Buffers { shelf, out, body_out, answer, file } = buffers;
+    let named =
+        [("shelf", shelf), ("frame output", out), ("body output", body_out), ("answer", answer), ("file", file)];
+    for (name, bytes) in named {
         writeln!(f, "  {name} of {}: {}", bytes.len(), hex(bytes))?;
     }
     Ok(())

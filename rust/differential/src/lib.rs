@@ -1,5 +1,5 @@
-//! The proved node and trail beside the second implementation, call by call: answer, record and every byte of every
-//! buffer; and the programs beside it, input by input.
+//! The proved node and trail beside the second implementation, call by call: returned number, image, answer and every
+//! byte of every buffer; and the programs beside it, input by input.
 #![forbid(unsafe_code)]
 
 pub mod arguments;

@@ -1,16 +1,17 @@
 //! Whole lists on both implementations at once.
 //!
-//! Each side keeps its own records and shelves from step to step: a record as itself in the reference, an image for
-//! the proved node. After every step answer, record and buffers are compared, and what both answered goes into the
-//! list's history, of which demand 3's conclusions are then checked.
+//! Each side keeps its own images and shelves from step to step. After every step the returned number, image, answer
+//! and buffers are compared, and what both answered goes into the list's history, of which demand 3's conclusions are
+//! then checked.
 
 use crate::pair::{judge, run_lent, Lent};
 use crate::Difference;
 use generate::counts::Counts;
-use generate::{Answer, Buffers, Call, Case, Outcome};
-use linked::lent::Image;
+use generate::{Answer, Buffers, Call, Case, Made, Outcome};
 use reference::frame::Frame;
 use reference::history::{ensure, History, Wrong};
+use reference::host::ANSWER;
+use reference::image::IMAGE;
 use reference::node::OUTPUT;
 use reference::{shelf, DeliverAnswer, OfferAnswer, Record, SendAnswer};
 use std::fmt::{Display, Formatter};
@@ -18,13 +19,20 @@ use std::fmt::{Display, Formatter};
 /// What fills lent outputs before a step.
 const FILL: u8 = 0xC3;
 
-/// A node on both sides.
+/// A node on both sides: the reference's image and shelf, and those lent to the proved node.
 #[derive(Clone, Debug)]
 pub struct Seat {
-    pub record: Record,
-    pub shelf: Vec<u8>,
-    image: Image,
+    image: Vec<u8>,
+    shelf: Vec<u8>,
+    lent_image: Vec<u8>,
     lent_shelf: Vec<u8>,
+}
+
+impl Seat {
+    /// The node's record.
+    fn record(&self) -> Record {
+        Record::of_sound_image(&self.image).expect("a list's image is sound")
+    }
 }
 
 /// A list on both sides, its frames in issue order, and its history.
@@ -117,13 +125,12 @@ impl Pairs {
         let history = History::start(n, cap);
         let mut pairs = Pairs { seats: Vec::new(), issued: Vec::new(), history, totals, steps: 0 };
         for me in 0..n {
-            let case = Case { record: Record::ZERO, call: Call::SetUp { me, n, cap }, buffers: Buffers::default() };
-            let mut buffers = Buffers::default();
-            let found = run_lent([FILL; 628], &case.call, &mut buffers);
-            let expected = pairs.check(&case, &found, &buffers)?;
-            let record = expected.record;
+            let case = Case { image: vec![FILL; IMAGE], ..Case::alone(Call::SetUp { me, n, cap }) };
+            let found = run_lent(case.image.clone(), &case.call, &mut Buffers::default());
+            let expected = pairs.check(&case, &found, &Buffers::default())?;
             let empty = vec![0; shelf::LENGTH];
-            pairs.seats.push(Seat { record, shelf: empty.clone(), image: found.image, lent_shelf: empty });
+            let (image, lent_image) = (expected.image, found.image);
+            pairs.seats.push(Seat { image, shelf: empty.clone(), lent_image, lent_shelf: empty });
         }
         Ok(pairs)
     }
@@ -248,20 +255,20 @@ impl Pairs {
     fn step(&mut self, node: usize, call: Call) -> Step<Outcome> {
         let seat = &self.seats[node];
         let lent = |shelf: &[u8]| match &call {
-            Call::Send { .. } => Buffers { out: vec![FILL; OUTPUT], ..Buffers::default() },
-            Call::Offer { .. } => Buffers { shelf: shelf.to_vec(), ..Buffers::default() },
+            Call::Send { .. } => Buffers { out: vec![FILL; OUTPUT], answer: vec![FILL; ANSWER], ..Buffers::default() },
+            Call::Offer { .. } => Buffers { shelf: shelf.to_vec(), answer: vec![FILL; ANSWER], ..Buffers::default() },
             _ => {
-                let (out, body_out) = (vec![FILL; OUTPUT], vec![FILL; Record::BODY]);
-                Buffers { shelf: shelf.to_vec(), out, body_out, ..Buffers::default() }
+                let (out, body_out, answer) = (vec![FILL; OUTPUT], vec![FILL; Record::BODY], vec![FILL; ANSWER]);
+                Buffers { shelf: shelf.to_vec(), out, body_out, answer, ..Buffers::default() }
             }
         };
-        let (case_buffers, mut buffers, image) = (lent(&seat.shelf), lent(&seat.lent_shelf), seat.image);
-        let case = Case { record: seat.record, call: call.clone(), buffers: case_buffers };
-        let found = run_lent(image, &call, &mut buffers);
+        let (case_buffers, mut buffers) = (lent(&seat.shelf), lent(&seat.lent_shelf));
+        let case = Case { image: seat.image.clone(), made: Made::Written, call, buffers: case_buffers };
+        let found = run_lent(seat.lent_image.clone(), &case.call, &mut buffers);
         let expected = self.check(&case, &found, &buffers)?;
         let seat = &mut self.seats[node];
-        (seat.record, seat.image) = (expected.record, found.image);
-        if !matches!(call, Call::Send { .. }) {
+        (seat.image, seat.lent_image) = (expected.image.clone(), found.image);
+        if !matches!(case.call, Call::Send { .. }) {
             (seat.shelf, seat.lent_shelf) = (expected.buffers.shelf.clone(), buffers.shelf);
         }
         Ok(expected)
@@ -288,7 +295,7 @@ impl Pairs {
     /// Counts what an offer came to at a full shelf.
     fn note_offer(&mut self, node: usize, answer: OfferAnswer) {
         let reached = &mut self.totals.reached;
-        match (answer, self.seats[node].record.held) {
+        match (answer, self.seats[node].record().held) {
             (OfferAnswer::Held { .. }, 15) => reached.fifteen_held += 1,
             (OfferAnswer::Held { .. }, 16) => reached.sixteen_held += 1,
             (OfferAnswer::Refused(16), 15) => reached.refused_at_fifteen += 1,
@@ -299,7 +306,7 @@ impl Pairs {
 
     /// The matrix that a node keeps is within the cap, and as many frames are held as the history says.
     fn check_node(&self, node: usize) -> Step<()> {
-        let record = &self.seats[node].record;
+        let record = self.seats[node].record();
         let (standing, held) = (record.standing(), self.history.held_at(node));
         ensure(standing <= record.cap as usize, || format!("{node} keeps {standing} entries"))?;
         ensure(record.held as usize == held, || format!("{node} says {} for {held} held", record.held))?;

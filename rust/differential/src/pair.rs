@@ -1,61 +1,33 @@
 //! One case on both implementations.
 
 use crate::difference::{hex, Difference};
-use generate::{Answer, Buffers, Call, Case, Outcome};
-use linked::lent::{self, Image, DELIVER_VALUES, OFFER_VALUES, SEND_VALUES};
+use generate::{Buffers, Call, Case, Outcome};
+use host::lent;
 
-/// What stands in the lent numbers before a call.
-const MARK: u32 = 0xA5A5_A5A5;
-
-/// What a call of the proved node leaves: its answer, the image, and whether a refusal kept the lent numbers.
+/// What a call of the proved node leaves: the number that it returned and the image. The buffers are changed in place.
 #[derive(Clone, Debug)]
 pub struct Lent {
-    pub answer: Answer,
-    pub image: Image,
-    pub kept: bool,
+    pub number: u8,
+    pub image: Vec<u8>,
 }
 
 /// Runs a call of the proved node over an image and the buffers; the yard, the load and the trail's are no calls of it.
-pub fn run_lent(mut image: Image, call: &Call, buffers: &mut Buffers) -> Lent {
-    let Buffers { shelf, out, body_out, .. } = buffers;
-    let (answer, kept) = match call {
-        Call::SetUp { me, n, cap } => {
-            let status = lent::set_up(&mut image, *me, *n, *cap);
-            (Answer::SetUp(linked::answer(status)), true)
-        }
-        Call::Send { to, body } => {
-            let mut values = [MARK; SEND_VALUES];
-            let status = lent::send(&mut image, *to, body, out, &mut values);
-            (Answer::Send(linked::send_answer(status, values)), kept(status, &values))
-        }
-        Call::Offer { frame } => {
-            let mut values = [MARK; OFFER_VALUES];
-            let status = lent::offer(&mut image, frame, shelf, &mut values);
-            (
-                Answer::Offer(linked::offer_answer(status, values)),
-                kept(status, &values) && (status != 0 || values[1] < 2),
-            )
-        }
-        Call::Deliver => {
-            let mut values = [MARK; DELIVER_VALUES];
-            let status = lent::deliver(&mut image, shelf, out, body_out, &mut values);
-            let none = status != 0 || values[0] != 0 || values == [0, 0, 0, values[3], 0, 0, 0];
-            (Answer::Deliver(linked::deliver_answer(status, values)), kept(status, &values) && none)
-        }
+pub fn run_lent(mut image: Vec<u8>, call: &Call, buffers: &mut Buffers) -> Lent {
+    let Buffers { shelf, out, body_out, answer, .. } = buffers;
+    let number = match call {
+        Call::SetUp { me, n, cap } => lent::set_up(&mut image, *me, *n, *cap),
+        Call::Send { to, body } => lent::send(&mut image, *to, body, out, answer),
+        Call::Offer { frame } => lent::offer(&mut image, frame, shelf, answer),
+        Call::Deliver => lent::deliver(&mut image, shelf, out, body_out, answer),
         _ => panic!("{} is no call of the node", call.name()),
     };
-    Lent { answer, image, kept }
-}
-
-/// A refusal leaves the lent numbers.
-fn kept(status: u8, values: &[u32]) -> bool {
-    status == 0 || values.iter().all(|value| *value == MARK)
+    Lent { number, image }
 }
 
 /// Runs the case on both; their outcome, or in what they differ.
 pub fn compare(case: &Case) -> Result<Outcome, Box<Difference>> {
     let mut buffers = case.buffers.clone();
-    let found = run_lent(case.record.to_image(), &case.call, &mut buffers);
+    let found = run_lent(case.image.clone(), &case.call, &mut buffers);
     judge(case, &found, &buffers)
 }
 
@@ -63,17 +35,15 @@ pub fn compare(case: &Case) -> Result<Outcome, Box<Difference>> {
 pub fn judge(case: &Case, found: &Lent, buffers: &Buffers) -> Result<Outcome, Box<Difference>> {
     let expected = case.run();
     let mut parts = Vec::new();
-    if expected.answer != found.answer {
-        parts.push(format!("answer: reference {:?}, proved {:?}", expected.answer, found.answer));
+    if expected.answer.number() != found.number {
+        parts.push(format!("returned: reference {}, proved {}", expected.answer.number(), found.number));
     }
-    let Buffers { shelf, out, body_out, .. } = &expected.buffers;
-    differ(&mut parts, "image", &expected.record.to_image(), &found.image);
+    let Buffers { shelf, out, body_out, answer, .. } = &expected.buffers;
+    differ(&mut parts, "image", &expected.image, &found.image);
     differ(&mut parts, "shelf", shelf, &buffers.shelf);
     differ(&mut parts, "frame output", out, &buffers.out);
     differ(&mut parts, "body output", body_out, &buffers.body_out);
-    if !found.kept {
-        parts.push("lent numbers: a refusal changed them, or one is not 0 where there is none".to_string());
-    }
+    differ(&mut parts, "answer", answer, &buffers.answer);
     Difference::unless_none(case, expected, parts)
 }
 

@@ -2,7 +2,7 @@
 
 use crate::{program, Difference};
 use generate::{Case, Outcome};
-use linked::load::OUTPUT;
+use load_c::OUTPUT;
 use std::path::Path;
 
 /// What stands in the output that is lent to the linked load.
@@ -41,7 +41,7 @@ pub fn linked_differs(input: &[u8], length: usize, printed: &[u8]) -> Option<Str
     let mut expected = vec![MARK; length];
     expected[..written.len()].copy_from_slice(written);
     let mut out = vec![MARK; length];
-    let count = linked::load(input, &mut out);
+    let count = load_c::load(input, &mut out);
     let differs = count != written.len() || out != expected;
     differs.then(|| format!("output of {length}: reference {}, linked {count} bytes of {}", text(written), text(&out)))
 }

@@ -4,7 +4,7 @@ use crate::pair::differ;
 use crate::Difference;
 use generate::trails::{fault, frame_fault};
 use generate::{Answer, Call, Case, Outcome, Walked};
-use linked::trail::lent::{self, Numbers, Place};
+use host::lent::{self, Cursor as Numbers, Place};
 use reference::cursor::Cursor;
 use reference::trail::WINDOWS;
 
@@ -96,7 +96,7 @@ pub fn reference_step(file: &[u8], cursor: Numbers) -> Step {
 
 /// The steps of a walk from its start to the first that shows nothing, and no more than a file of this length can have.
 pub fn steps(file: &[u8], w: usize, step: fn(&[u8], Numbers) -> Step) -> Vec<Step> {
-    let mut cursor = lent::start(file, w);
+    let mut cursor = lent::walk_start(file, w);
     let mut steps = Vec::new();
     while steps.last().is_none_or(|step: &Step| step.place().is_some()) && steps.len() < file.len() + 2 {
         steps.push(step(file, cursor));

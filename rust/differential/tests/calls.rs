@@ -1,15 +1,18 @@
-//! A bounded share of the calls that `compare` runs, and every refusal of every call among them.
+//! A bounded share of the calls that `compare` runs: every refusal of every call is among them, every way to damage an
+//! image, and both sides of every length's bound.
 
 use differential::program::Programs;
 use differential::run::{Cases, Tally};
-use generate::{Call, Case};
+use generate::counts::{Counts, Lent};
+use generate::images::damages;
+use generate::Made;
 
 /// The refusals that each call gives.
 const REFUSALS: [(&str, &[u8]); 7] = [
-    ("set-up", &[1]),
-    ("send", &[2, 3, 5, 6, 7]),
-    ("offer", &[2, 3, 4, 8, 9, 10, 11, 12, 13, 14, 15, 16]),
-    ("deliver", &[2, 3, 4, 5]),
+    ("set-up", &[1, 20]),
+    ("send", &[3, 5, 6, 7, 20]),
+    ("offer", &[3, 4, 8, 9, 10, 11, 12, 13, 14, 15, 16, 20]),
+    ("deliver", &[3, 4, 5, 20]),
     ("write", &[3, 19]),
     ("walk", &[19]),
     ("step", &[19]),
@@ -18,6 +21,35 @@ const REFUSALS: [(&str, &[u8]); 7] = [
 const CALLS: usize = 250_000;
 /// Each refusal is met at least this often from each seed.
 const LEAST: usize = 1_000;
+/// Each way to damage a part of an image, and each length about a bound, is met at least this often from each seed.
+const SELDOM: usize = 15;
+
+/// Lengths on both sides of a bound and the number that each call gives for them, 0 where it was taken. That frames of
+/// 802 bytes are taken, which is rarer, stands with the largest below.
+const BOUNDS: [(&str, Lent, usize, u8); 22] = [
+    ("send", "frame output", 2047, 3),
+    ("send", "frame output", 2048, 0),
+    ("send", "frame output", 2049, 0),
+    ("send", "body", 0, 0),
+    ("send", "body", 64, 0),
+    ("send", "body", 65, 7),
+    ("offer", "shelf", 12_831, 3),
+    ("offer", "shelf", 12_832, 0),
+    ("offer", "shelf", 12_833, 3),
+    ("offer", "frame", 0, 8),
+    ("offer", "frame", 11, 8),
+    ("offer", "frame", 12, 0),
+    ("offer", "frame", 803, 8),
+    ("deliver", "shelf", 12_831, 3),
+    ("deliver", "shelf", 12_832, 0),
+    ("deliver", "shelf", 12_833, 3),
+    ("deliver", "frame output", 2047, 3),
+    ("deliver", "frame output", 2048, 0),
+    ("deliver", "frame output", 2049, 0),
+    ("deliver", "body output", 63, 3),
+    ("deliver", "body output", 64, 0),
+    ("deliver", "body output", 65, 0),
+];
 
 /// Compares the calls of a seed.
 fn run(seed: u64) -> Tally {
@@ -34,49 +66,61 @@ fn run(seed: u64) -> Tally {
 }
 
 /// Each refusal is met often enough, and the largest frames are met.
-fn check_counts(tally: &Tally) {
+fn check_refusals(counts: &Counts) {
     for (call, numbers) in REFUSALS {
         for number in numbers {
-            let met = tally.counts.of(call, *number);
+            let met = counts.of(call, *number);
             assert!(met >= LEAST, "{call} gave {number} only {met} times");
         }
     }
-    assert_eq!(["send", "deliver", "offer"].map(|call| tally.counts.largest(call)), [814, 504, 802]);
+    assert_eq!(["send", "deliver", "offer"].map(|call| counts.largest(call)), [814, 504, 802]);
+}
+
+/// Each way to damage an image is met often enough at each call that reads it, and so are images as written. Where the
+/// trailer was made right again, the image of another record may be taken.
+fn check_images(counts: &Counts) {
+    for call in ["send", "offer", "deliver"] {
+        for (part, sealed) in damages() {
+            let made = Made::Damaged { part, sealed };
+            let met = counts.of_made(call, made, 20);
+            assert!(met >= SELDOM, "{call} gave 20 for {made:?} only {met} times");
+            assert!(sealed || counts.of_made(call, made, 0) == 0, "{call} took {made:?}");
+        }
+        for made in [false, true].map(|sealed| Made::Resized { sealed }) {
+            let met = counts.of_made(call, made, 20);
+            assert!(met >= LEAST / 4, "{call} gave 20 for {made:?} only {met} times");
+        }
+        assert!(counts.of_made(call, Made::Written, 0) >= LEAST);
+    }
+}
+
+/// Each length about a bound, at each call that is lent it, has given these numbers often enough.
+fn check_lengths(counts: &Counts) {
+    let check = |call, lent, length, number| {
+        let met = counts.of_length(call, lent, length, number);
+        assert!(met >= SELDOM, "{call} gave {number} for {lent} of {length} only {met} times");
+    };
+    for (call, lent, length, number) in BOUNDS {
+        check(call, lent, length, number);
+    }
+    for call in ["set-up", "send", "offer", "deliver"] {
+        for length in [0, 1, 1000].into_iter().chain(627..=640) {
+            check(call, "image", length, if length == 632 { 0 } else { 20 });
+        }
+    }
+    for call in ["send", "offer", "deliver"] {
+        (0..=20).for_each(|length| check(call, "answer", length, if length < 11 { 3 } else { 0 }));
+    }
 }
 
 #[test]
 fn calls_of_four_seeds() {
     let seeds = [101, 202, 303, 404].map(|seed| std::thread::spawn(move || run(seed)));
     for tally in seeds.map(|thread| thread.join()) {
-        match tally {
-            Ok(tally) => check_counts(&tally),
-            Err(panic) => std::panic::resume_unwind(panic),
-        }
-    }
-}
-
-#[test]
-fn by_value() {
-    let mut cases = Cases::new(7);
-    for _ in 0..20_000 {
-        let Case { record, call, buffers } = cases.case();
-        let (mut left, mut right) = (buffers.clone(), buffers);
-        match call {
-            Call::SetUp { me, n, cap } => assert_eq!(linked::set_up(me, n, cap), reference::set_up(me, n, cap)),
-            Call::Send { to, body } => assert_eq!(
-                linked::send(record, to, &body, &mut left.out),
-                reference::send(record, to, &body, &mut right.out)
-            ),
-            Call::Offer { frame } => assert_eq!(
-                linked::offer(record, &frame, &mut left.shelf),
-                reference::offer(record, &frame, &mut right.shelf)
-            ),
-            Call::Deliver => assert_eq!(
-                linked::deliver(record, &mut left.shelf, &mut left.out, &mut left.body_out),
-                reference::deliver(record, &mut right.shelf, &mut right.out, &mut right.body_out)
-            ),
-            _ => (),
-        }
-        assert_eq!(left, right);
+        let Tally { calls, counts, .. } = tally.unwrap_or_else(|panic| std::panic::resume_unwind(panic));
+        assert!(calls >= 200_000, "only {calls} calls of the node");
+        check_refusals(&counts);
+        check_images(&counts);
+        check_lengths(&counts);
     }
 }

@@ -7,7 +7,7 @@ use differential::program::{compiled, complaint, output, Programs};
 use differential::run::{compare_inputs, fates_of_inputs};
 use differential::stored;
 use generate::Generator;
-use linked::load::OUTPUT;
+use load_c::OUTPUT;
 use reference::boundary::{CROWDED_LOADS, HALF_LOADS};
 
 /// Seeds of the generated lines.

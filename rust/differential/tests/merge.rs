@@ -28,10 +28,9 @@ fn deliver(kept: u32, carried: u32, own: u32) -> Outcome {
     let mut draft = Draft { kind: USER, from: 1, to: 0, n: 3, cap: 9, zero: 0, entries: vec![], body: vec![] };
     draft.set(1, 2, carried);
     draft.set(2, 0, own);
-    let mut buffers =
-        Buffers { shelf: vec![0; shelf::LENGTH], out: vec![0; OUTPUT], body_out: vec![0; Record::BODY], file: vec![] };
-    shelf::hold(&mut buffers.shelf, 0, &draft.bytes());
-    let case = Case { record, call: Call::Deliver, buffers };
+    let (mut shelf, out, body_out) = (vec![0; shelf::LENGTH], vec![0; OUTPUT], vec![0; Record::BODY]);
+    shelf::hold(&mut shelf, 0, &draft.bytes());
+    let case = Case::written(&record, Call::Deliver, Buffers { shelf, out, body_out, ..Buffers::default() });
     compare(&case).unwrap_or_else(|difference| panic!("{difference}"))
 }
 
@@ -42,17 +41,18 @@ fn the_larger_count_stays_and_the_own_column_is_zero() {
     for kept in &counts {
         for carried in counts.iter().filter(|carried| **carried > 0) {
             let own = (*carried).min(Record::COUNT - 1);
-            let mut outcome = deliver(*kept, *carried, own);
+            let outcome = deliver(*kept, *carried, own);
             assert!(matches!(outcome.answer, Answer::Deliver(DeliverAnswer::Delivered(_))), "{:?}", outcome.answer);
-            assert_eq!(*outcome.record.entry_mut(1, 2), *kept.max(carried), "{kept} and {carried}");
-            assert_eq!(*outcome.record.entry_mut(2, 0), 0, "{own} in the own column");
+            let record = outcome.record().expect("a sound image");
+            assert_eq!(record.entry(1, 2), *kept.max(carried), "{kept} and {carried}");
+            assert_eq!(record.entry(2, 0), 0, "{own} in the own column");
         }
     }
 }
 
 #[test]
 fn a_count_above_the_limit_is_refused() {
-    for (kept, carried, number) in [(Record::COUNT + 1, 1, 2), (1, Record::COUNT + 1, 4), (1 << 31, 1 << 31, 2)] {
+    for (kept, carried, number) in [(Record::COUNT + 1, 1, 20), (1, Record::COUNT + 1, 4), (1 << 31, 1 << 31, 20)] {
         let answer = deliver(kept, carried, 1).answer;
         assert_eq!(answer, Answer::Deliver(DeliverAnswer::Refused(number)), "{kept} and {carried}");
     }

@@ -4,7 +4,8 @@
 use differential::trails::{class, compare_trail};
 use generate::trails::Trails;
 use generate::{Answer, Call, Case, Outcome, Walked};
-use linked::trail::{largest, write, Shown, Walk};
+use host::trail::{largest, write, Shown, Walk};
+use host::Refusal;
 use reference::frame::EXTRA;
 use reference::list::List;
 use reference::random::Random;
@@ -233,17 +234,17 @@ fn a_refused_write_and_a_refused_walk() {
     let frames = frames_within(&mut Trails::new(715), 60, 300);
     let file = written(&frames, 0);
     let (mut full, mut used) = (file.clone(), file.len());
-    assert_eq!(write(&mut full, &mut used, &frames[0]), Err(3));
-    assert_eq!(write(&mut full, &mut used, &frames[0][1..]), Err(19));
+    assert_eq!(write(&mut full, &mut used, &frames[0]), Err(Refusal::TooShort));
+    assert_eq!(write(&mut full, &mut used, &frames[0][1..]), Err(Refusal::Trail));
     assert_eq!((&full, used), (&file, file.len()));
     let damaged = [b"bad", &file[..]].concat();
     let mut walk = Walk::new(&damaged, 5);
     let shown: Vec<_> = walk.by_ref().collect();
-    assert_eq!((shown.len(), shown.last()), (frames.len() + 1, Some(&Err(19))));
+    assert_eq!((shown.len(), shown.last()), (frames.len() + 1, Some(&Err(Refusal::Trail))));
     assert_eq!((walk.next(), walk.left(), walk.largest()), (None, 3, None));
-    assert_eq!([largest(&damaged, 5), largest(&file, 0), largest(&file, 65)], [Err(19); 3]);
+    assert_eq!([largest(&damaged, 5), largest(&file, 0), largest(&file, 65)], [Err(Refusal::Trail); 3]);
     let mut walk = Walk::new(&file, 65);
-    assert_eq!([walk.next(), walk.next()], [Some(Err(19)), None]);
+    assert_eq!([walk.next(), walk.next()], [Some(Err(Refusal::Trail)), None]);
     assert_eq!((walk.left(), walk.largest()), (file.len(), None));
 }
 

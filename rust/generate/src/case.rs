@@ -1,9 +1,17 @@
-//! A case: a record, a call and the buffers lent to it, and what comes of it.
+//! A case: an image, a call and the buffers lent to it, and what comes of it.
 
+use crate::images::Made;
 use reference::cursor::Cursor;
+use reference::frame::Frame;
+use reference::host::{self, read_answer, ANSWER};
+use reference::image::HELD;
+use reference::node::Delivery;
 use reference::recount::{self, Fates};
 use reference::trail::{back, walk, write, WINDOWS};
-use reference::{deliver, load, offer, send, set_up, yard, DeliverAnswer, OfferAnswer, Record, Refusal, SendAnswer};
+use reference::{load, yard, DeliverAnswer, OfferAnswer, Record, Refusal, SendAnswer};
+
+/// What stands in an answer before a call.
+pub const MARK: u8 = 0xA5;
 
 /// A call with its numbers and the bytes that it only reads.
 #[derive(Clone, Debug, PartialEq, Eq)]
@@ -28,14 +36,18 @@ pub struct Buffers {
     pub out: Vec<u8>,
     /// Body output (deliver).
     pub body_out: Vec<u8>,
+    /// The answer (send, offer, deliver).
+    pub answer: Vec<u8>,
     /// The trail's file (write).
     pub file: Vec<u8>,
 }
 
-/// One call with all that goes into it; set-up, the yard, the load and the trail's calls do not look at the record.
+/// One call with all that goes into it; the yard, the load and the trail's calls are lent no image.
 #[derive(Clone, Debug, PartialEq, Eq)]
 pub struct Case {
-    pub record: Record,
+    pub image: Vec<u8>,
+    /// How the image was made.
+    pub made: Made,
     pub call: Call,
     pub buffers: Buffers,
 }
@@ -74,12 +86,19 @@ pub struct Stepped {
     pub cursor: Cursor,
 }
 
-/// The answer, the record that comes back, and every lent buffer afterwards.
+/// The answer, and the image and every lent buffer afterwards.
 #[derive(Clone, Debug, PartialEq, Eq)]
 pub struct Outcome {
     pub answer: Answer,
-    pub record: Record,
+    pub image: Vec<u8>,
     pub buffers: Buffers,
+}
+
+impl Outcome {
+    /// The record of the image, where that is sound.
+    pub fn record(&self) -> Option<Record> {
+        Record::of_sound_image(&self.image)
+    }
 }
 
 impl Call {
@@ -137,34 +156,79 @@ impl Answer {
 }
 
 impl Case {
-    /// The case of a call that looks at no record and is lent no buffers.
+    /// The case of a call that is lent neither image nor buffers.
     pub fn alone(call: Call) -> Case {
-        Case { record: Record::ZERO, call, buffers: Buffers::default() }
+        Case { image: Vec::new(), made: Made::Found, call, buffers: Buffers::default() }
+    }
+
+    /// The case of a call on a record's image, with an answer of eleven bytes.
+    pub fn written(record: &Record, call: Call, buffers: Buffers) -> Case {
+        let buffers = Buffers { answer: vec![MARK; ANSWER], ..buffers };
+        Case { image: record.to_image().to_vec(), made: Made::Written, call, buffers }
     }
 
     /// Runs the case on the reference.
     pub fn run(&self) -> Outcome {
-        let mut buffers = self.buffers.clone();
-        let (answer, record) = self.run_with(&mut buffers);
-        Outcome { answer, record, buffers }
+        let (mut image, mut buffers) = (self.image.clone(), self.buffers.clone());
+        let answer = self.run_with(&mut image, &mut buffers);
+        Outcome { answer, image, buffers }
     }
 
-    /// Runs the case on the reference with these buffers, which have to be its own.
-    fn run_with(&self, buffers: &mut Buffers) -> (Answer, Record) {
-        let Buffers { shelf, out, body_out, file } = buffers;
-        let record = self.record;
+    /// Runs the case on the reference with this image and these buffers, which have to be its own.
+    fn run_with(&self, image: &mut [u8], buffers: &mut Buffers) -> Answer {
+        let Buffers { shelf, out, body_out, answer, file } = buffers;
         match &self.call {
-            Call::SetUp { me, n, cap } => wrap(Answer::SetUp, set_up(*me, *n, *cap)),
-            Call::Send { to, body } => wrap(Answer::Send, send(record, *to, body, out)),
-            Call::Offer { frame } => wrap(Answer::Offer, offer(record, frame, shelf)),
-            Call::Deliver => wrap(Answer::Deliver, deliver(record, shelf, out, body_out)),
-            Call::Yard { input } => (Answer::Yard(yard(input)), record),
-            Call::Load { input } => (Answer::Load(load(input)), record),
-            Call::Write { used, frame } => (Answer::Write(write(file, *used, frame)), record),
-            Call::Walk { file, w } => (Answer::Walk(walked(file, *w)), record),
-            Call::Step { file, cursor } => (Answer::Step(stepped(file, cursor)), record),
+            Call::SetUp { me, n, cap } => Answer::SetUp(taken(host::set_up(image, *me, *n, *cap))),
+            Call::Send { to, body } => send_answer(host::send(image, *to, body, out, answer), answer),
+            Call::Offer { frame } => self.offer_answer(host::offer(image, frame, shelf, answer), frame),
+            Call::Deliver => deliver_answer(host::deliver(image, shelf, out, body_out, answer), answer),
+            Call::Yard { input } => Answer::Yard(yard(input)),
+            Call::Load { input } => Answer::Load(load(input)),
+            Call::Write { used, frame } => Answer::Write(write(file, *used, frame)),
+            Call::Walk { file, w } => Answer::Walk(walked(file, *w)),
+            Call::Step { file, cursor } => Answer::Step(stepped(file, cursor)),
         }
     }
+
+    /// What an offer came to: of a frame that was taken also how many are held then and whether it was deliverable,
+    /// which the host is not told.
+    fn offer_answer(&self, number: u8, frame: &[u8]) -> Answer {
+        if number > 0 {
+            return Answer::Offer(OfferAnswer::Refused(number));
+        }
+        let record = Record::of_sound_image(&self.image).expect("the image of an offer that was taken is sound");
+        let deliverable = Frame::first_of(frame).is_some_and(|frame| frame.is_deliverable(&record.deliv));
+        Answer::Offer(OfferAnswer::Held { held: self.image[HELD] as usize + 1, deliverable })
+    }
+}
+
+/// The result of a call without an answer.
+fn taken(number: u8) -> Result<(), Refusal> {
+    match number {
+        0 => Ok(()),
+        number => Err(number),
+    }
+}
+
+/// What the bytes of an answer say, where the call was taken.
+fn said(number: u8, answer: &[u8]) -> Result<Delivery, Refusal> {
+    taken(number)
+        .map(|()| read_answer(answer.first_chunk().expect("the answer of a call that was taken has its bytes")))
+}
+
+/// What a send came to.
+fn send_answer(number: u8, answer: &[u8]) -> Answer {
+    let sent = said(number, answer).map(|said| SendAnswer::Sent { bytes: said.bytes, extras: said.extras });
+    Answer::Send(sent.unwrap_or_else(SendAnswer::Refused))
+}
+
+/// What a deliver came to.
+fn deliver_answer(number: u8, answer: &[u8]) -> Answer {
+    Answer::Deliver(match said(number, answer) {
+        Err(number) => DeliverAnswer::Refused(number),
+        Ok(said) if said.kind == 0 => DeliverAnswer::None { looked: said.looked },
+        Ok(said) => DeliverAnswer::Delivered(said),
+    })
 }
 
 /// What the reference's walk comes to; w is looked at before the first frame.
@@ -182,9 +246,4 @@ pub fn stepped(file: &[u8], cursor: &Cursor) -> Result<Option<Stepped>, Refusal>
         is_extra: shown.is_extra(),
         cursor,
     }))
-}
-
-/// Names an answer's call.
-fn wrap<T>(name: impl FnOnce(T) -> Answer, (answer, record): (T, Record)) -> (Answer, Record) {
-    (name(answer), record)
 }

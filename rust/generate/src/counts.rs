@@ -1,13 +1,20 @@
 //! How often each answer of each call is met.
 
-use crate::case::{Answer, Call, Case, Outcome};
+use crate::case::{Answer, Buffers, Call, Case, Outcome};
+use crate::images::Made;
 use reference::{DeliverAnswer, OfferAnswer, SendAnswer};
 use std::collections::BTreeMap;
 
-/// Counts by call and by what was answered, and the most bytes that a call issued or held.
+/// What a call is lent.
+pub type Lent = &'static str;
+
+/// Counts by call and by what was answered, by how its image was made, by the lengths that it was lent, and the most
+/// bytes that a call issued or held.
 #[derive(Clone, Debug, Default)]
 pub struct Counts {
     counts: BTreeMap<(&'static str, String), usize>,
+    made: BTreeMap<(&'static str, Made, u8), usize>,
+    lengths: BTreeMap<(&'static str, Lent, usize, u8), usize>,
     largest: BTreeMap<&'static str, usize>,
 }
 
@@ -17,8 +24,23 @@ impl Counts {
         for label in labels(&outcome.answer) {
             *self.counts.entry((case.call.name(), label)).or_default() += 1;
         }
-        let largest = self.largest.entry(case.call.name()).or_default();
+        let (call, number) = (case.call.name(), outcome.answer.number());
+        *self.made.entry((call, case.made, number)).or_default() += 1;
+        for (lent, length) in lengths(case) {
+            *self.lengths.entry((call, lent, length, number)).or_default() += 1;
+        }
+        let largest = self.largest.entry(call).or_default();
         *largest = bytes_of(case, &outcome.answer).max(*largest);
+    }
+
+    /// How often a call with an image so made gave a number, 0 where it was taken.
+    pub fn of_made(&self, call: &'static str, made: Made, number: u8) -> usize {
+        self.made.get(&(call, made, number)).copied().unwrap_or(0)
+    }
+
+    /// How often a call that was lent this with so many bytes gave a number, 0 where it was taken.
+    pub fn of_length(&self, call: &'static str, lent: Lent, length: usize, number: u8) -> usize {
+        self.lengths.get(&(call, lent, length, number)).copied().unwrap_or(0)
     }
 
     /// The most bytes that a send or a deliver issued, or that an offered and held frame had.
@@ -37,6 +59,20 @@ impl Counts {
         let counts = self.counts.iter().map(|((call, label), count)| line(call, label, *count));
         let largest = self.largest.iter().filter(|(_, bytes)| **bytes > 0);
         counts.chain(largest.map(|(call, bytes)| line(call, "most bytes", *bytes))).collect()
+    }
+}
+
+/// What a call of the node is lent and only reads or writes, with its length.
+fn lengths(case: &Case) -> Vec<(Lent, usize)> {
+    let Buffers { shelf, out, body_out, answer, .. } = &case.buffers;
+    let (image, answer) = (("image", case.image.len()), ("answer", answer.len()));
+    let (shelf, out) = (("shelf", shelf.len()), ("frame output", out.len()));
+    match &case.call {
+        Call::SetUp { .. } => vec![image],
+        Call::Send { body, .. } => vec![image, answer, out, ("body", body.len())],
+        Call::Offer { frame } => vec![image, answer, shelf, ("frame", frame.len())],
+        Call::Deliver => vec![image, answer, shelf, out, ("body output", body_out.len())],
+        _ => vec![],
     }
 }
 

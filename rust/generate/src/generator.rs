@@ -1,10 +1,13 @@
 //! The generator: from a seed, cases of every call in a steady mixture.
 
 use crate::case::{Buffers, Call, Case};
+use crate::images::{any_image, any_length};
 use crate::records::{any_cap, any_n};
 use crate::states::{any_state, parted_state, reach_limit, Runner, State};
 use crate::trails::Trails;
 use crate::{frames, loads, records, shelves, yards};
+use reference::host::ANSWER;
+use reference::image::IMAGE;
 use reference::node::OUTPUT;
 use reference::random::Random;
 use reference::{shelf, Record};
@@ -27,13 +30,13 @@ impl Generator {
 
     /// The next case, of any call.
     pub fn case(&mut self) -> Case {
-        match self.random.below(108) {
-            0..=3 => self.set_up(),
-            4..=27 => self.send(),
-            28..=74 => self.offer(),
-            75..=95 => self.deliver(),
-            96 | 97 => self.yard(),
-            98 | 99 => self.load(),
+        match self.random.below(112) {
+            0..=5 => self.set_up(),
+            6..=30 => self.send(),
+            31..=78 => self.offer(),
+            79..=100 => self.deliver(),
+            101 | 102 => self.yard(),
+            103 | 104 => self.load(),
             _ => self.trail(),
         }
     }
@@ -74,18 +77,20 @@ impl Generator {
             numbers[index] = bounds[index];
         }
         let [me, n, cap] = numbers;
-        Case::alone(Call::SetUp { me, n, cap })
+        let length = if random.once_in(4) { any_length(random) } else { IMAGE };
+        Case { image: any_bytes(random, length), ..Case::alone(Call::SetUp { me, n, cap }) }
     }
 
     /// A send with any of its checks met at times.
     pub fn send(&mut self) -> Case {
         let mut state = self.state(12);
         let random = &mut self.random;
-        damage_record(random, &mut state.record, 12);
+        damage_record(random, &mut state.record, 16);
         let to = any_destination(random, &state.record);
         let body = any_body(random);
-        let out = any_output(random);
-        Case { record: state.record, call: Call::Send { to, body }, buffers: Buffers { out, ..Buffers::default() } }
+        let (image, made) = any_image(random, &state.record, 12);
+        let buffers = Buffers { out: any_output(random), answer: any_answer(random), ..Buffers::default() };
+        Case { image, made, call: Call::Send { to, body }, buffers }
     }
 
     /// An offer with any of its checks met at times.
@@ -95,8 +100,9 @@ impl Generator {
         let frame = any_frame(random, &state);
         damage_shelf(random, &mut state, 10);
         damage_record(random, &mut state.record, 25);
-        let Buffers { shelf, .. } = any_buffers(random, state.shelf);
-        Case { record: state.record, call: Call::Offer { frame }, buffers: Buffers { shelf, ..Buffers::default() } }
+        let (image, made) = any_image(random, &state.record, 20);
+        let Buffers { shelf, answer, .. } = any_buffers(random, state.shelf);
+        Case { image, made, call: Call::Offer { frame }, buffers: Buffers { shelf, answer, ..Buffers::default() } }
     }
 
     /// A deliver with any of its checks met at times.
@@ -105,8 +111,9 @@ impl Generator {
         let random = &mut self.random;
         damage_shelf(random, &mut state, 6);
         damage_record(random, &mut state.record, 15);
+        let (image, made) = any_image(random, &state.record, 12);
         let buffers = any_buffers(random, state.shelf);
-        Case { record: state.record, call: Call::Deliver, buffers }
+        Case { image, made, call: Call::Deliver, buffers }
     }
 
     /// A yard with any input.
@@ -196,12 +203,23 @@ fn any_body_output(random: &mut Random) -> Vec<u8> {
     any_bytes(random, length)
 }
 
+/// The answer, at times about the bound of check 3.
+fn any_answer(random: &mut Random) -> Vec<u8> {
+    let length = match random.below(24) {
+        0 => random.below(ANSWER),
+        1 => random.within(ANSWER + 1, 20),
+        _ => ANSWER,
+    };
+    any_bytes(random, length)
+}
+
 /// The buffers of a deliver, the shelf at times of another length.
 fn any_buffers(random: &mut Random, mut shelf: Vec<u8>) -> Buffers {
     if random.once_in(25) {
         shelf.resize(random.pick(&[0, 1, Record::FRAME, shelf::LENGTH - 1, shelf::LENGTH + 1, shelf::LENGTH + 802]), 0);
     }
-    Buffers { shelf, out: any_output(random), body_out: any_body_output(random), ..Buffers::default() }
+    let (out, body_out, answer) = (any_output(random), any_body_output(random), any_answer(random));
+    Buffers { shelf, out, body_out, answer, ..Buffers::default() }
 }
 
 /// A frame to offer: issued in the list, sound, held already, or damaged.

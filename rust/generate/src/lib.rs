@@ -5,6 +5,7 @@ pub mod case;
 pub mod counts;
 pub mod frames;
 pub mod generator;
+pub mod images;
 pub mod loads;
 pub mod records;
 pub mod shelves;
@@ -15,3 +16,4 @@ pub mod yards;
 
 pub use case::{Answer, Buffers, Call, Case, Outcome, Stepped, Walked};
 pub use generator::Generator;
+pub use images::Made;

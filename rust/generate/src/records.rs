@@ -1,5 +1,6 @@
 //! Records: sound ones of any values, ones at the limit, and ones that break a rule.
 
+use reference::image::FIELDS;
 use reference::random::Random;
 use reference::Record;
 
@@ -101,7 +102,7 @@ pub fn damage(random: &mut Random, record: &mut Record, way: usize) -> bool {
         12 => raise(random, record, |row, column, me, n| row >= n && column != me && column < n),
         13 => raise(random, record, |row, column, _, n| column >= n && row < n),
         14 => raise_deliv(random, record, |x, _, n| x >= n),
-        _ => damage_byte(random, record),
+        _ => damage_bit(random, record),
     }
 }
 
@@ -179,11 +180,10 @@ fn exceed_cap(random: &mut Random, record: &mut Record) -> bool {
     true
 }
 
-/// Changes one byte of the record's image, which may leave it sound.
-fn damage_byte(random: &mut Random, record: &mut Record) -> bool {
+/// Changes one bit of the record's fields, which may leave it sound.
+fn damage_bit(random: &mut Random, record: &mut Record) -> bool {
     let mut image = record.to_image();
-    let index = random.below(image.len());
-    image[index] ^= 1 << random.below(8);
-    *record = Record::from_image(&image);
+    image[random.below(FIELDS)] ^= 1 << random.below(8);
+    *record = Record::from_fields(&image);
     false
 }

@@ -8,7 +8,6 @@ use reference::draft::{repair, Draft};
 use reference::frame::{Frame, EXTRA, TRAILER, USER};
 use reference::random::Random;
 use reference::trail::back;
-use reference::Record;
 
 /// Frames of each kind that trails are made of.
 const STOCK: usize = 48;
@@ -57,11 +56,7 @@ impl Trails {
             _ => before,
         };
         let file = random.bytes(length);
-        Case {
-            record: Record::ZERO,
-            call: Call::Write { used, frame },
-            buffers: Buffers { file, ..Buffers::default() },
-        }
+        Case { buffers: Buffers { file, ..Buffers::default() }, ..Case::alone(Call::Write { used, frame }) }
     }
 
     /// A whole walk over any file with any window.

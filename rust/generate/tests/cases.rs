@@ -1,6 +1,7 @@
 //! What holds of the generated cases, and how often each refusal is met.
 
 use generate::counts::Counts;
+use generate::images::{self, Part};
 use generate::trails::{fault, Trails};
 use generate::{frames, loads, records, shelves, states, Call, Case, Generator, Outcome};
 use reference::frame::Frame;
@@ -8,14 +9,14 @@ use reference::random::Random;
 use reference::recount::Fates;
 use reference::trail::back;
 use reference::{shelf, Record};
-use std::collections::BTreeMap;
+use std::collections::{BTreeMap, BTreeSet};
 
 /// The checks of each call.
 const CHECKS: [(&str, &[u8]); 9] = [
-    ("set-up", &[1]),
-    ("send", &[2, 3, 5, 6, 7]),
-    ("offer", &[2, 3, 4, 8, 9, 10, 11, 12, 13, 14, 15, 16]),
-    ("deliver", &[2, 3, 4, 5]),
+    ("set-up", &[1, 20]),
+    ("send", &[3, 5, 6, 7, 20]),
+    ("offer", &[3, 4, 8, 9, 10, 11, 12, 13, 14, 15, 16, 20]),
+    ("deliver", &[3, 4, 5, 20]),
     ("yard", &[6, 14, 15, 16, 17]),
     ("load", &[18]),
     ("write", &[3, 19]),
@@ -23,19 +24,17 @@ const CHECKS: [(&str, &[u8]); 9] = [
     ("step", &[19]),
 ];
 
-/// A refusal leaves record and buffers, and another answer gives a sound record and shelf.
+/// A refusal leaves image and buffers, and another answer of the node gives a sound image and shelf.
 fn check_outcome(case: &Case, outcome: &Outcome) {
     let refused = outcome.answer.number() > 0;
     match &case.call {
-        Call::Yard { .. } | Call::Load { .. } => (),
-        Call::SetUp { .. } if refused => assert_eq!(outcome.record, Record::ZERO),
-        _ if refused => assert_eq!((outcome.record, &outcome.buffers), (case.record, &case.buffers)),
-        Call::SetUp { .. } | Call::Send { .. } => assert!(outcome.record.keeps_rules()),
+        _ if refused => assert_eq!((&outcome.image, &outcome.buffers), (&case.image, &case.buffers)),
+        Call::SetUp { .. } | Call::Send { .. } => assert!(outcome.record().is_some()),
         Call::Offer { .. } | Call::Deliver => {
-            assert!(outcome.record.keeps_rules());
-            assert_eq!(shelf::check(&outcome.buffers.shelf, &outcome.record), Ok(()));
+            let record = outcome.record().expect("a sound image");
+            assert_eq!(shelf::check(&outcome.buffers.shelf, &record), Ok(()));
         }
-        Call::Write { .. } | Call::Walk { .. } | Call::Step { .. } => assert_eq!(outcome.record, case.record),
+        _ => assert_eq!(outcome.image, case.image),
     }
 }
 
@@ -101,6 +100,41 @@ fn each_way_damages_a_record() {
         }
         assert!(damaged > 50, "{way}: {damaged}");
     }
+}
+
+#[test]
+fn each_way_damages_an_image() {
+    let mut random = Random::new(19);
+    let sound = |image: &[u8]| Record::of_sound_image(image).is_some();
+    for (part, sealed) in images::damages() {
+        let (mut damaged, mut changed) = (0, 0);
+        for _ in 0..300 {
+            let record = records::any_record(&mut random);
+            let mut image = record.to_image();
+            images::damage(&mut random, &mut image, part, sealed);
+            assert!(sealed || !sound(&image), "{part:?}");
+            assert_eq!(Record::from_fields(&image) == record, matches!(part, Part::Count | Part::Sum), "{part:?}");
+            damaged += usize::from(!sound(&image));
+            changed += usize::from(sound(&image));
+        }
+        assert!(damaged > 50, "{part:?} {sealed}: {damaged}");
+        // A field with its trailer made right may leave a sound image of another record.
+        assert_eq!(changed > 0, sealed && part != Part::Count, "{part:?} {sealed}: {changed}");
+    }
+}
+
+#[test]
+fn images_of_other_lengths_are_not_sound() {
+    let mut random = Random::new(20);
+    let mut lengths = BTreeSet::new();
+    for _ in 0..3_000 {
+        let (length, sealed) = (images::any_length(&mut random), random.once_in(2));
+        let image = records::any_record(&mut random).to_image();
+        let bytes = images::resized(&mut random, &image, length, sealed);
+        assert_eq!((bytes.len(), Record::of_sound_image(&bytes)), (length, None));
+        lengths.insert(length);
+    }
+    assert!([0, 1, 1000].into_iter().chain(627..=640).all(|length| (length == 632) != lengths.contains(&length)));
 }
 
 #[test]

@@ -1,8 +1,9 @@
 //! The program `trail`: what it prints, what it refuses, its status, and that it leaves the file.
 
-use linked::trail::write;
-use reference::draft::Draft;
-use reference::frame::{Entry, EXTRA, USER};
+mod common;
+
+use common::{path, spelled};
+use host::trail::write;
 use std::ffi::OsStr;
 use std::fs::File;
 use std::path::PathBuf;
@@ -10,14 +11,13 @@ use std::process::{Command, Output, Stdio};
 
 /// A trail of three frames: user, extra, user.
 fn sample() -> Vec<u8> {
-    let second = Entry { row: 2, column: 1, value: 4 };
     let frames = [
-        Draft { kind: USER, from: 0, to: 1, n: 3, cap: 3, zero: 0, entries: vec![], body: b"O".to_vec() },
-        Draft { kind: EXTRA, from: 2, to: 1, n: 4, cap: 16, zero: 0, entries: vec![second], body: vec![] },
-        Draft { kind: USER, from: 11, to: 10, n: 12, cap: 144, zero: 0, entries: vec![], body: vec![7; 64] },
+        spelled(1, 0, 1, 3, 3, &[], b"O"),
+        spelled(2, 2, 1, 4, 16, &[(2, 1, 4)], &[]),
+        spelled(1, 11, 10, 12, 144, &[], &[7; 64]),
     ];
     let (mut file, mut used) = ([0; 200], 0);
-    frames.iter().for_each(|frame| write(&mut file, &mut used, &frame.bytes()).expect("a sound frame with room"));
+    frames.iter().for_each(|frame| write(&mut file, &mut used, frame).expect("a sound frame with room"));
     file[..used].to_vec()
 }
 
@@ -57,7 +57,7 @@ fn it_prints_each_frame_and_the_largest_count() {
 
 #[test]
 fn it_prints_the_example_of_the_documents() {
-    let trail = std::fs::read("../../examples/five.trail").expect("the example can be read");
+    let trail = std::fs::read(path("examples/five.trail")).expect("the example can be read");
     let lines = "62 18 extra 0 1 1\n44 18 extra 0 1 1\n31 13 user 0 1 1\n13 18 extra 0 1 1\n0 13 user 0 1 1\n";
     for (w, most) in [("1", 1), ("2", 2), ("3", 2), ("4", 3), ("5", 3), ("64", 3)] {
         let expected = format!("{lines}largest count {most}\n");

@@ -51,7 +51,7 @@ fn loop_fault(body: &[Instruction]) -> Option<String> {
 
 #[test]
 fn the_linked_merge_has_no_jump_but_its_loops() {
-    let archive = Path::new(env!("CARGO_MANIFEST_DIR")).join("../../target/staticlib/libnode_c.a");
+    let archive = Path::new(env!("CARGO_MANIFEST_DIR")).join("../../target/staticlib/libhost.a");
     let code = disassemble(&archive, "node_deliver");
     assert!(!code.is_empty(), "the archive has no node_deliver");
     if let Some(found) = fault(&code) {

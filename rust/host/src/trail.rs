@@ -1,10 +1,9 @@
 //! The trail of the proved code: a file of frames end to end, written on at its end and walked back from there.
 //!
-//! `lent` has the calls as they are exported. A file here is bytes in memory: of one that has room behind what is
-//! written, a walk is lent the bytes in use alone.
+//! A file here is bytes in memory: of one that has room behind what is written, a walk is lent the bytes in use alone.
 //!
 //! ```
-//! use linked::trail::{largest, write, Walk};
+//! use host::trail::{largest, write, Walk};
 //!
 //! let frame = [0x01, 0x00, 0x01, 0x00, 0x01, 0x03, 0x03, 0x00, 0x4F, 0x09, 0x00, 0x61, 0x00];
 //! let (mut file, mut used) = ([0; 64], 0);
@@ -16,34 +15,36 @@
 //! }
 //! assert_eq!(walk.largest(), Some(0));
 //! assert_eq!(largest(&file[..used], 8), Ok(0));
-//! # Ok::<(), u8>(())
+//! # Ok::<(), host::Refusal>(())
 //! ```
 
-pub mod lent;
-
-use crate::answer;
-use lent::{Numbers, Place};
-use reference::Refusal;
+use crate::lent::{self, Cursor, Place};
+use crate::refusal::Refusal;
 use std::iter::FusedIterator;
-use std::ops::Range;
+use std::ops::{Range, RangeInclusive};
+
+/// How many successive frames a window may have.
+pub const WINDOWS: RangeInclusive<usize> = 1..=64;
 
 /// Writes one frame on behind the bytes in use, the number of which grows by it; 19 for a frame that is not sound on
 /// its own, 3 where it does not fit, and then file and number stay.
 pub fn write(file: &mut [u8], used: &mut usize, frame: &[u8]) -> Result<(), Refusal> {
-    answer(lent::write(file, used, frame))
+    Refusal::unless_zero(lent::write(file, used, frame))
 }
 
 /// The largest count of extra frames in any window of w successive frames (1 to 64) of a file; 19 when w is out of
 /// range or the file is damaged.
 pub fn largest(file: &[u8], w: usize) -> Result<usize, Refusal> {
     let mut most = 0;
-    answer(lent::walk(file, w, &mut most)).map(|()| most)
+    Refusal::unless_zero(lent::walk(file, w, &mut most)).map(|()| most)
 }
 
 /// Where a frame is in a file.
 #[derive(Clone, Copy, Debug, PartialEq, Eq)]
 pub struct Shown {
+    /// Its first byte.
     pub start: usize,
+    /// How many bytes it has.
     pub length: usize,
 }
 
@@ -58,7 +59,7 @@ impl Shown {
 #[derive(Clone, Debug)]
 pub struct Walk<'a> {
     file: &'a [u8],
-    cursor: Numbers,
+    cursor: Cursor,
     state: State,
 }
 
@@ -73,7 +74,7 @@ enum State {
 impl<'a> Walk<'a> {
     /// A walk over the bytes in use with windows of w successive frames (1 to 64, or the first step is refused).
     pub fn new(file: &'a [u8], w: usize) -> Walk<'a> {
-        Walk { file, cursor: lent::start(file, w), state: State::Going }
+        Walk { file, cursor: lent::walk_start(file, w), state: State::Going }
     }
 
     /// How many bytes are left in front of where the walk stands; after a refusal no sound frame ends there.
@@ -89,7 +90,7 @@ impl<'a> Walk<'a> {
     /// One step on: a place, or none at the start.
     fn step(&mut self) -> Result<Option<Shown>, Refusal> {
         let mut place: Place = [0; 2];
-        answer(lent::step(self.file, &mut self.cursor, &mut place))?;
+        Refusal::unless_zero(lent::step(self.file, &mut self.cursor, &mut place))?;
         let [start, length] = place.map(|number| number as usize);
         Ok((length > 0).then_some(Shown { start, length }))
     }

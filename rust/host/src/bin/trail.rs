@@ -4,9 +4,8 @@
 //! in any W successive frames, or `R 19` and the byte at which the walk stopped. The file is read and never written.
 //! The status is 0, 1 after `R 19`, and 2 where an argument is bad, the file cannot be read or the output not written.
 
-use linked::trail::{Shown, Walk};
-use reference::frame::{Frame, USER};
-use reference::trail::WINDOWS;
+use host::trail::{Shown, Walk, WINDOWS};
+use host::{Frame, Kind};
 use std::ffi::OsString;
 use std::fs::File;
 use std::io::{self, BufWriter, Write};
@@ -68,7 +67,7 @@ fn print(file: &[u8], w: usize) -> io::Result<ExitCode> {
 fn line(file: &[u8], shown: Shown) -> String {
     let Shown { start, length } = shown;
     let frame = Frame::first_of(&file[shown.range()]).expect("a frame that is shown is sound");
-    let kind = if frame.kind() == USER { "user" } else { "extra" };
+    let kind = if frame.kind() == Some(Kind::User) { "user" } else { "extra" };
     format!("{start} {length} {kind} {} {} {}", frame.from(), frame.to(), frame.number())
 }
 

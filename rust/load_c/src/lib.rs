@@ -1,4 +1,4 @@
-//! The load as it is exported: over a lent input and a lent output.
+//! The proved load as it is exported: over a lent input and a lent output.
 //!
 //! Nothing checks this declaration against the Rattle source `crates/load_c/src/lib.rt`: a slice is a pointer and then
 //! its length there.
