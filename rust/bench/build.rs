@@ -29,7 +29,7 @@ fn variable(name: &str) -> String {
     std::env::var(name).unwrap_or_else(|_| panic!("{name} is not set (BEFORE names an earlier libnode_c.a)"))
 }
 
-/// Copies an archive with its functions on lines of the cache, the node's calls renamed and every other function hidden.
+/// Copies an archive with its functions on lines of the cache, the node's calls renamed and all others hidden.
 fn rename(name: &str, archive: &Path, copy: &Path) {
     let mut objcopy = Command::new("objcopy");
     objcopy.arg("--set-section-alignment=.text.*=64");

@@ -9,54 +9,31 @@ use reference::image::FIELDS;
 /// Numbers of the earlier answers: send and offer have two, deliver seven.
 const VALUES: usize = 7;
 
-extern "C" {
-    fn before_set_up(image: *mut u8, me: usize, n: usize, cap: usize) -> u8;
-    fn before_send(_: *mut u8, to: usize, _: *const u8, _: usize, _: *mut u8, _: usize, values: *mut u32) -> u8;
-    fn before_offer(_: *mut u8, _: *const u8, _: usize, _: *mut u8, _: usize, values: *mut u32) -> u8;
-    fn before_deliver(
-        image: *mut u8,
-        queue: *mut u8,
-        queue_length: usize,
-        out: *mut u8,
-        out_length: usize,
-        body: *mut u8,
-        body_length: usize,
-        values: *mut u32,
-    ) -> u8;
+/// Lent bytes that may be written; a slice is followed by its length.
+type Bytes = *mut u8;
+/// Lent bytes that are only read.
+type Read = *const u8;
 
-    fn after_set_up(_: *mut u8, _: usize, me: usize, n: usize, cap: usize) -> u8;
-    fn after_send(
-        image: *mut u8,
-        image_length: usize,
-        to: usize,
-        body: *const u8,
-        body_length: usize,
-        out: *mut u8,
-        out_length: usize,
-        answer: *mut u8,
-        answer_length: usize,
-    ) -> u8;
-    fn after_offer(
-        image: *mut u8,
-        image_length: usize,
-        frame: *const u8,
-        frame_length: usize,
-        queue: *mut u8,
-        queue_length: usize,
-        answer: *mut u8,
-        answer_length: usize,
-    ) -> u8;
+extern "C" {
+    fn before_set_up(_: Bytes, me: usize, n: usize, cap: usize) -> u8;
+    fn before_send(_: Bytes, to: usize, _: Read, _: usize, _: Bytes, _: usize, values: *mut u32) -> u8;
+    fn before_offer(_: Bytes, _: Read, _: usize, _: Bytes, _: usize, values: *mut u32) -> u8;
+    fn before_deliver(_: Bytes, _: Bytes, _: usize, _: Bytes, _: usize, _: Bytes, _: usize, values: *mut u32) -> u8;
+
+    fn after_set_up(_: Bytes, _: usize, me: usize, n: usize, cap: usize) -> u8;
+    fn after_send(_: Bytes, _: usize, to: usize, _: Read, _: usize, _: Bytes, _: usize, _: Bytes, _: usize) -> u8;
+    fn after_offer(_: Bytes, _: usize, _: Read, _: usize, _: Bytes, _: usize, _: Bytes, _: usize) -> u8;
     fn after_deliver(
-        image: *mut u8,
-        image_length: usize,
-        queue: *mut u8,
-        queue_length: usize,
-        out: *mut u8,
-        out_length: usize,
-        body: *mut u8,
-        body_length: usize,
-        answer: *mut u8,
-        answer_length: usize,
+        _: Bytes,
+        _: usize,
+        _: Bytes,
+        _: usize,
+        _: Bytes,
+        _: usize,
+        _: Bytes,
+        _: usize,
+        _: Bytes,
+        _: usize,
     ) -> u8;
 }
 

@@ -35,9 +35,7 @@ pub struct Frame<'a> {
 impl<'a> Frame<'a> {
     /// The frame at the front of the bytes, if it is there whole.
     pub fn first_of(bytes: &'a [u8]) -> Option<Frame<'a>> {
-        let (e, b) = (*bytes.get(3)?, *bytes.get(4)?);
-        let length = SHORTEST + ENTRY * e as usize + b as usize;
-        bytes.get(..length).filter(|_| length <= FRAME).map(|bytes| Frame { bytes })
+        Some(Frame { bytes: bytes.get(..length_of(bytes)?)? })
     }
 
     /// The whole frame, as it is to be transmitted.
@@ -68,6 +66,14 @@ impl<'a> Frame<'a> {
         let before = entries.chunks_exact(ENTRY).find(|entry| entry[0] == from && entry[1] == to);
         before.map_or(1, |entry| u32::from_le_bytes([entry[2], entry[3], entry[4], entry[5]]).saturating_add(1))
     }
+}
+
+/// How long the frame at the front of the bytes says that it is, where a frame can be so long.
+fn length_of(bytes: &[u8]) -> Option<usize> {
+    let [_, _, _, e, b, ..] = *bytes else {
+        return None;
+    };
+    Some(SHORTEST + ENTRY * usize::from(e) + usize::from(b)).filter(|length| *length <= FRAME)
 }
 
 /// The frames that lie end to end from the front of some bytes, up to where there is no whole frame.

@@ -1,7 +1,8 @@
 //! The exported calls as they are, over lent slices of any length.
 //!
-//! Each returns 0 or its refusal, and a refusal leaves every lent byte and number. This is the one module with `unsafe`:
-//! [`Node`](crate::Node) and [`trail`](crate::trail) are built on it, and tests and benchmarks call it directly.
+//! Each returns 0 or its refusal, and a refusal leaves every lent byte and number. This is the one module with
+//! `unsafe`: [`Node`](crate::Node) and [`trail`](crate::trail) are built on it, and tests and benchmarks call it
+//! directly.
 //!
 //! In the archive a slice is a pointer and then its length, an array or a lent number a pointer. The compiler cannot
 //! hold these declarations against it; the tests `declarations` and `header` do, by calls in which each parameter's

@@ -2,7 +2,7 @@
 
 mod common;
 
-use common::{cut, delivered, plant, sealed, send, spelled};
+use common::{before_an_extra, cut, delivered, plant, sealed, send, spelled};
 use host::sizes::{BODY, FRAME, HELD, IMAGE, NODES, QUEUE, STORED};
 use host::{Delivered, Frame, Kind, Node, Output, Refusal};
 
@@ -55,16 +55,8 @@ fn a_send_is_refused_for_its_destination_and_its_body() {
 
 #[test]
 fn an_extra_frame_comes_behind_the_user_frame_and_is_delivered_without_a_body() {
-    // Document 01's example: node 0 delivers from 1 and then from 2, and column 1 has to be cleared.
-    let mut nodes = plant(3, 3);
-    let mut frames = Vec::new();
-    for (from, to) in [(0, 1), (0, 2), (1, 2), (1, 0), (2, 1), (2, 0)] {
-        frames.push(send(&mut nodes[from], to, &[]).remove(0));
-    }
+    let (mut nodes, frames) = before_an_extra();
     let mut output = Output::new();
-    nodes[0].offer(&frames[3]).unwrap();
-    assert_eq!(nodes[0].deliver(&mut output).unwrap().frame().unwrap().extras, 0);
-    nodes[0].offer(&frames[5]).unwrap();
     let delivery = nodes[0].deliver(&mut output).unwrap().frame().unwrap();
     assert_eq!((delivery.kind, delivery.from, delivery.number, delivery.looked), (Kind::User, 2, 1, 1));
     assert_eq!((delivery.extras, delivery.frames().count()), (1, 1));

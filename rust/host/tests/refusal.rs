@@ -33,7 +33,8 @@ fn each_says_what_is_wrong_and_what_to_do() {
 #[test]
 fn it_is_an_error() {
     let error: Box<dyn Error + Send + Sync> = Box::new(Refusal::QueueFull);
-    let words = "16: 16 frames are held, or 15 are and this one has to wait; to do: deliver until there is none, then offer it again";
+    let words = "16: 16 frames are held, or 15 are and this one has to wait; \
+        to do: deliver until there is none, then offer it again";
     assert_eq!(error.to_string(), words);
 }
 

@@ -30,12 +30,15 @@ fn unruly() -> Image {
     Record { held: 17, ..fresh(1, 3, 3) }.to_image()
 }
 
+/// A call on an image, a shelf and an answer.
+type Call<'a> = &'a mut dyn FnMut(&mut [u8], &mut [u8], &mut [u8]) -> u8;
+
 /// The numbers that send, offer and deliver give with an answer of this length and the other buffers as they must be;
 /// each refused call leaves all.
 fn numbers(image: &[u8], answer_length: usize) -> [u8; 3] {
     let (mut out, mut body, mut answer) = ([0; OUTPUT], [0; 64], vec![MARK; answer_length]);
     let shelf = state().1;
-    let mut number = |call: &mut dyn FnMut(&mut [u8], &mut [u8], &mut [u8]) -> u8| {
+    let mut number = |call: Call| {
         let (mut after, mut after_shelf) = (image.to_vec(), shelf.clone());
         let number = call(&mut after, &mut after_shelf, &mut answer);
         let left = after == image && after_shelf == shelf && answer == vec![MARK; answer_length];

@@ -1,6 +1,8 @@
 //! What the tests share: frames spelled out, and nodes of a plant.
 #![allow(dead_code)]
 
+pub mod c;
+
 use host::{Delivered, Frames, Node, Output};
 
 /// A frame's bytes with a right trailer; entries are row, column and value.
@@ -50,6 +52,18 @@ pub fn delivered(node: &mut Node) -> Vec<Vec<u8>> {
         bodies.push(delivery.body.to_vec());
     }
     bodies
+}
+
+/// Document 01's example of a delivery that issues an extra frame: three nodes with cap 3, the frames from 0 to 1, 0 to
+/// 2, 1 to 2, 1 to 0, 2 to 1 and 2 to 0, of which node 0 has delivered the one from 1 and holds the one from 2.
+pub fn before_an_extra() -> (Vec<Node>, Vec<Vec<u8>>) {
+    let mut nodes = plant(3, 3);
+    let pairs = [(0, 1), (0, 2), (1, 2), (1, 0), (2, 1), (2, 0)];
+    let frames = pairs.map(|(from, to)| send(&mut nodes[from], to, &[]).remove(0)).to_vec();
+    nodes[0].offer(&frames[3]).expect("a sound frame");
+    assert_eq!(delivered(&mut nodes[0]).len(), 1);
+    nodes[0].offer(&frames[5]).expect("a sound frame");
+    (nodes, frames)
 }
 
 /// A file at the top of the repository.
