@@ -103,6 +103,7 @@ fn check_lengths(counts: &Counts) {
     for (call, lent, length, number) in BOUNDS {
         check(call, lent, length, number);
     }
+    check("set-up", "image", 631, 1);
     for call in ["set-up", "send", "offer", "deliver"] {
         for length in [0, 1, 1000].into_iter().chain(627..=640) {
             check(call, "image", length, if length == 632 { 0 } else { 20 });
@@ -110,6 +111,8 @@ fn check_lengths(counts: &Counts) {
     }
     for call in ["send", "offer", "deliver"] {
         (0..=20).for_each(|length| check(call, "answer", length, if length < 11 { 3 } else { 0 }));
+        let both: usize = (0..11).map(|length| counts.of_length(call, "answer", length, 20)).sum();
+        assert!(both >= SELDOM, "{call} gave 20 before 3 only {both} times");
     }
 }
 
