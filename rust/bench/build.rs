@@ -14,6 +14,8 @@ fn main() {
         return;
     }
     let before = PathBuf::from(variable("BEFORE"));
+    // One of another name may have other parameters, which no linker looks at.
+    assert!(before.ends_with("libnode_c.a"), "BEFORE is not the path of a libnode_c.a: {}", before.display());
     let after = Path::new(&variable("CARGO_MANIFEST_DIR")).join("../../target/staticlib/libhost.a");
     let folder = PathBuf::from(variable("OUT_DIR"));
     println!("cargo:rustc-link-search=native={}", folder.display());
