@@ -3,7 +3,7 @@
  *
  * Each function returns 0 (CAUSAL_TAKEN) or the number of a refusal; a refusal leaves every byte and number that was
  * lent. The functions require nothing of what the lent bytes are. They keep no pointer and share nothing: calls on
- * different nodes may run on different threads, calls on one node may not.
+ * different nodes may run at the same time, calls on one node must come one after the other.
  *
  * Every pointer must be valid for its length, also where that is 0 (any pointer but NULL), and no two of the buffers
  * lent to one call may overlap. docs/host.md has the host's duties.
