@@ -1,6 +1,5 @@
 //! A function's instructions as objdump lists them (AT&T's order, the destination last), and the loops among them.
 
-use std::ops::RangeInclusive;
 use std::path::Path;
 use std::process::Command;
 
@@ -73,12 +72,45 @@ pub fn disassemble(archive: &Path, function: &str) -> Vec<Instruction> {
     parse(&String::from_utf8_lossy(&output.stdout))
 }
 
-/// The addresses of each loop, from where a jump leads back to the last jump that leads there.
-pub fn loops(code: &[Instruction]) -> Vec<RangeInclusive<u64>> {
-    let back = |jump: &Instruction| jump.target().filter(|target| *target <= jump.address);
-    let mut starts: Vec<u64> = code.iter().filter_map(back).collect();
-    starts.sort_unstable();
-    starts.dedup();
-    let end = |start: u64| code.iter().filter(|jump| back(jump) == Some(start)).map(|jump| jump.address).max();
-    starts.iter().filter_map(|start| Some(*start..=end(*start)?)).collect()
+/// The loops: for each place that a jump leads back to, the instructions on the ways from there to such a jump, in the
+/// order of their addresses. A jump back that cannot be reached from where it leads makes no loop: code that is seldom
+/// run is laid behind the rest, and jumps back to it.
+pub fn loops(code: &[Instruction]) -> Vec<Vec<Instruction>> {
+    let next: Vec<Vec<usize>> = (0..code.len()).map(|place| next_of(code, place)).collect();
+    let mut before = vec![Vec::new(); code.len()];
+    for (place, places) in next.iter().enumerate() {
+        places.iter().for_each(|after| before[*after].push(place));
+    }
+    let bodies = (0..code.len()).map(|start| {
+        let within = reached(&next, &[start], None);
+        let back = |place: &usize| *place >= start && code[*place].target() == Some(code[start].address);
+        let jumps: Vec<usize> = (0..code.len()).filter(back).filter(|place| within[*place]).collect();
+        let leading = reached(&before, &jumps, Some(start));
+        (0..code.len()).filter(|place| within[*place] && leading[*place]).map(|place| code[place].clone()).collect()
+    });
+    bodies.filter(|body: &Vec<Instruction>| !body.is_empty()).collect()
+}
+
+/// The places of the instructions that may follow one; of a jump by a register or a table, any.
+fn next_of(code: &[Instruction], place: usize) -> Vec<usize> {
+    let one = &code[place];
+    if one.operands.starts_with('*') && one.name.starts_with("jmp") {
+        return (0..code.len()).collect();
+    }
+    let ends = ["ret", "ud2", "hlt"].iter().any(|name| one.name.starts_with(name));
+    let falls = !ends && !one.name.starts_with("jmp") && place + 1 < code.len();
+    let target = one.target().and_then(|target| code.iter().position(|other| other.address == target));
+    target.into_iter().chain(falls.then_some(place + 1)).collect()
+}
+
+/// The places that are reached from these, these among them, and none over the one at which the way ends.
+fn reached(next: &[Vec<usize>], from: &[usize], end: Option<usize>) -> Vec<bool> {
+    let mut seen = vec![false; next.len()];
+    let mut left = from.to_vec();
+    while let Some(place) = left.pop() {
+        if !std::mem::replace(&mut seen[place], true) && Some(place) != end {
+            left.extend(&next[place]);
+        }
+    }
+    seen
 }

@@ -7,7 +7,6 @@
 mod listing;
 
 use listing::{disassemble, loops, parse, Instruction};
-use std::ops::RangeInclusive;
 use std::path::Path;
 
 /// What is wrong with the merge in a function's code; none where each of its loops is as it must be.
@@ -21,8 +20,7 @@ fn fault(code: &[Instruction]) -> Option<String> {
 
 /// The loops in which an element is loaded and stored behind it.
 fn merge_loops(code: &[Instruction]) -> Vec<Vec<Instruction>> {
-    let body = |range: &RangeInclusive<u64>| code.iter().filter(|one| range.contains(&one.address)).cloned().collect();
-    loops(code).iter().map(body).filter(|body: &Vec<Instruction>| has_pair(body)).collect()
+    loops(code).into_iter().filter(|body| has_pair(body)).collect()
 }
 
 /// Whether an element is loaded and stored behind it.
@@ -112,6 +110,21 @@ fn a_test_of_the_loop_in_front_of_the_store_is_found() {
     (last.name, last.operands) = ("jmp".to_string(), "520 <node_deliver+0x520>".to_string());
     let found = fault(&code).unwrap();
     assert!(found.starts_with("the loop of the merge has a conditional jump in front of the store:"), "{found}");
+}
+
+/// Code behind the loop that jumps back in front of it, from where it is not reached, makes no loop; where it is reached
+/// from there it does, with the loop and its jump inside.
+#[test]
+fn code_laid_behind_the_rest_is_no_loop() {
+    let mut code = parse(" 510:\tje     600 <node_deliver+0x600>");
+    code.extend(with_line(""));
+    let seldom = " 561:\tret\n 600:\tcall   700 <memcpy>\n 605:\tjmp    520 <node_deliver+0x520>";
+    code.extend(parse(seldom));
+    assert_eq!(fault(&code), None);
+    let place = code.iter().position(|one| one.name == "ret").unwrap();
+    code[place] = parse(" 561:\tjne    600 <node_deliver+0x600>").remove(0);
+    let found = fault(&code).unwrap();
+    assert!(found.starts_with("the loop of the merge has a call:\n520: movzbl"), "{found}");
 }
 
 #[test]
