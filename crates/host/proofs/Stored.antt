@@ -3,7 +3,7 @@ use Prim.Native.Nat.{_+_, _-_, _≤_, ℕ}
 use mathlib.Core.List.{List, [], _++_, _∷_, append-assoc, append-nil}
 use mathlib.Core.Path.{_∙_, _≡_, ap, sym}
 use native.Mathlib.Omega.{arith}
-use lib.ListN.{drop, drop-of-length-le, length, length-append, length-drop, set, take}
+use lib.ListN.{drop, length, length-append, length-drop, set, take}
 use lib.Seq.{drop-at, take-at}
 use Rattle.wire.proofs.Bytes.{length-le32, put-append, put-eq}
 use Rattle.wire.proofs.Trailer.{length-trailer}

@@ -2,7 +2,7 @@
 -- On a refusal, set-up's too, every lent byte is as before. 20 stands where document 01 has 2.
 use Prim.Native.Nat.{ℕ}
 use mathlib.Core.Bool.{cond}
-use mathlib.Core.List.{List, [], _∷_, _++_}
+use mathlib.Core.List.{List, _∷_, _++_}
 use lib.Dec.{eqb, ltb}
 use lib.ListN.{length}
 use Rattle.wire.specs.Bytes.{le16, le32, put}

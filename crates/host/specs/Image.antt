@@ -1,5 +1,5 @@
 -- The image of a record: its fields in document 02 (vi)'s order, and behind them a trailer of the frame's kind, which is `wire`'s.
-use Prim.Native.Nat.{ℕ, zero, suc, _+_, _<_}
+use Prim.Native.Nat.{ℕ, zero, suc, _+_}
 use mathlib.Core.Bool.{Bool, false, not, _||_}
 use mathlib.Core.List.{List, [], _∷_, _++_}
 use mathlib.Core.Path.{_≡_}

@@ -1,5 +1,5 @@
 -- The image is read, the node's checks are made, and what the delivery left is written. Assumes nothing.
-use Prim.Native.Nat.{_-_, _<_}
+use Prim.Native.Nat.{_-_}
 use mathlib.Core.Bool.{Bool, false}
 use mathlib.Core.Path.{_∙_, _≡_, ap, ap₂, refl, sym}
 use native.Mathlib.Omega.{arith}
@@ -82,8 +82,8 @@ why c =
     (c .before .before .before .before .short-for-deliver .ensures)
 
 -- once no check is met
-ready : (c : tie.Else2) → (let a =
-    lent (arrays (c .before)) .args in DeliverReady (a .image .now) (a .queue .now) (a .out .now) (a .body .now) (a .answer .now))
+ready : (c : tie.Else2)
+    → (let a = lent (arrays (c .before)) .args in DeliverReady (a .image .now) (a .queue .now) (a .out .now) (a .body .now) (a .answer .now))
 ready c = deliver-ready _ _ _ _ _ (whole (opened (arrays (c .before)))) (sym (why (c .before)) ∙ c .if2 .left)
 
 passed-checks : (c : tie.Else2)
@@ -101,8 +101,8 @@ sized c =
     (ap length (c .read-arrays .ensures .0) ∙ record-cells i, ap length (c .read-arrays .ensures .1) ∙ record-senders i)
 
 -- the place found
-spot : (c : tie.After-search) → c .search .result ≡ (let a =
-    lent (arrays (passed c .before)) .args in placeOf (searched (recordIn (a .image .now)) (a .queue .now)))
+spot : (c : tie.After-search) → c .search .result
+    ≡ (let a = lent (arrays (passed c .before)) .args in placeOf (searched (recordIn (a .image .now)) (a .queue .now)))
 spot c =
     c .search .ensures _ _ _ _ ∙ ap (λ (r : Record). placeOf (searched r (lent (arrays (passed c .before)) .args .queue .now)))
     (same (arrays (passed c .before)))
@@ -297,10 +297,10 @@ same-length-11 c = search needs
 
 returns-4 : tie.Need-returns-4
 returns-4 c =
-    let a = lent (arrays (passed (found (counted (c .before .before .before .before .before .before .before .before .before .before)) .before) .before)) .args in
-    deliver-done (a .image .now) (a .queue .now) (a .out .now) (a .body .now) (a .answer .now)
-    (ready (passed (found (counted (c .before .before .before .before .before .before .before .before .before .before)) .before))) _ _ _ _ _ _ _
-    (taken (c .before .before .before .before .before .before .before .before .before .before))
+    let u = c .before .before .before .before .before .before .before .before .before .before in
+    let p = passed (found (counted u) .before) in
+    let a = lent (arrays (p .before)) .args in
+    deliver-done (a .image .now) (a .queue .now) (a .out .now) (a .body .now) (a .answer .now) (ready p) _ _ _ _ _ _ _ (taken u)
     (c .before .before .before .before .before .before .store-delivery .ensures) (c .before .before .write-delivery .ensures)
 
 pub node-deliver-spec : {M : Type 1} → statement M

@@ -1,7 +1,7 @@
 -- The image is read, the node's checks are made, and the frame and the number of held frames are written. Assumes nothing.
 use Prim.Native.Nat.{_+_, _<_}
 use mathlib.Core.Bool.{false}
-use mathlib.Core.Path.{_∙_, _≡_, ap, ap₂, refl, sym}
+use mathlib.Core.Path.{_∙_, _≡_, ap, refl, sym}
 use native.Mathlib.Omega.{arith}
 use borrow.Author.Needs.{needs}
 use lib.Dec.{ltb, nltb→le}
@@ -15,7 +15,7 @@ use Rattle.node.proofs.Offering.{Holdable, offer-accepted, offer-leaves, offera
 use Rattle.node.specs.CallRefusals.{recordRefusal, takeRefusal}
 use Rattle.node.specs.Record.{nodeAt}
 use Rattle.node.specs.declared.Node.{Node as Record}
-use Rattle.host.proofs.Left.{OfferReady, offer-20, offer-done, offer-ready, offer-why, record-cells, record-read, record-senders, sealed-size, unsealed}
+use Rattle.host.proofs.Left.{OfferReady, offer-20, offer-done, offer-ready, offer-why, record-read, sealed-size, unsealed}
 use Rattle.host.specs.Exports.{answerSize}
 use Rattle.host.specs.Image.{imageSize, recordIn}
 use Rattle.host.proofs.node_offer.Statement.{statement}

@@ -1,8 +1,6 @@
 -- One test. Assumes nothing.
-use mathlib.Core.Path.{sym}
 use borrow.Author.Tests.{le-ltb, lt-ltb}
 use Rattle.host.specs.Exports.{answerSize}
-use borrow.Author.Needs.{needs}
 use Rattle.host.proofs.room.Statement.{statement}
 use Rattle.host.proofs.room.Tie as tie
 

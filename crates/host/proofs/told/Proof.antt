@@ -1,6 +1,5 @@
 -- One test. Assumes nothing.
 use borrow.Author.Tests.{eq-eqb, ne-eqb}
-use borrow.Author.Needs.{needs}
 use Rattle.host.proofs.told.Statement.{statement}
 use Rattle.host.proofs.told.Tie as tie
 

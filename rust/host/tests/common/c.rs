@@ -27,9 +27,11 @@ pub fn check(name: &str, words: &[&str], source: &Path) {
     run(compiler(name, words, source).arg("-fsyntax-only"));
 }
 
-/// Builds a C program with the archive alone, and gives its path.
+/// Builds a C program with the archive alone, and gives its path. Names are bound when it starts: bound at the first
+/// call of `memcpy`, the loader's own stack would count as a call's.
 pub fn build(source: &Path, program: &str) -> PathBuf {
     let target = Path::new(env!("CARGO_TARGET_TMPDIR")).join(program);
-    run(compiler("cc", &["-std=c99"], source).arg(path("target/staticlib/libhost.a")).arg("-o").arg(&target));
+    let words = ["-std=c99", "-Wl,-z,now"];
+    run(compiler("cc", &words, source).arg(path("target/staticlib/libhost.a")).arg("-o").arg(&target));
     target
 }

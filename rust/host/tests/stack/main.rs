@@ -8,7 +8,7 @@ use std::path::Path;
 use std::process::Command;
 
 /// No call goes deeper than this many bytes, as docs/host.md says.
-const STACK: usize = 4_096;
+const STACK: usize = 2_048;
 
 #[test]
 fn no_call_goes_deeper_than_is_said() {

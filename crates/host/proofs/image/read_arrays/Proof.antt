@@ -1,6 +1,5 @@
 -- The numbers of M, then those of DELIV. Assumes nothing.
 use mathlib.Core.Path.{_∙_, ap}
-use Prim.Native.Nat.{ℕ}
 use Rattle.host.specs.Image.{numbersAt, recordIn}
 use borrow.Author.Needs.{needs}
 use Rattle.host.proofs.image.read_arrays.Statement.{statement}

@@ -1,8 +1,5 @@
 -- The length, then the trailer. Assumes nothing.
-use mathlib.Core.Path.{ap}
-use mathlib.Core.Bool.{not}
 use borrow.Author.Tests.{eq-eqb, ne-eqb}
-use lib.ListN.{length}
 use Rattle.host.specs.Image.{imageSize}
 use borrow.Author.Needs.{needs}
 use Rattle.host.proofs.image.unsealed.Statement.{statement}

@@ -25,8 +25,10 @@ sized c = search needs
 -- the refusal
 told : (c : tie.After-refusal) → c .refusal .result
     ≡ (let a = start c .args in deliverRefusal (a .t1) (a .queue .now) (shortOutputs (length (a .out .now)) (length (a .body .now))))
-told c = let s =
-    start c in c .refusal .ensures ∙ ap (deliverRefusal (s .args .t1) (s .args .queue .now)) (c .before .before .before .before .before .short-outputs .ensures)
+told c =
+    let s = start c in
+    c .refusal .ensures
+    ∙ ap (deliverRefusal (s .args .t1) (s .args .queue .now)) (c .before .before .before .before .before .short-outputs .ensures)
 
 -- what holds once no check is met
 passed-checks : (c : tie.Else1) → (let a = begun c .args in Ready (a .t1) (a .queue .now) (length (a .out .now)) (length (a .body .now)))
@@ -83,13 +85,16 @@ cast-count-up c = search needs
 
 count-up-requires : tie.Need-count-up-requires
 count-up-requires c κs =
-    let from = c .before .before .before .before .before .before .before .before .take .ensures .0 in
-    (sized (begun (passed (c .before .before .before .before .before .before .before .before .before .before .before .before .before))) .1, from, passed-checks (passed (c .before .before .before .before .before .before .before .before .before .before .before .before .before)) .sound .vectorLimit _ from)
+    let t = c .before .before .before .before .before .before .before .before in
+    let p = passed (t .before .before .before .before .before) in
+    let from = t .take .ensures .0 in
+    (sized (begun p) .1, from, passed-checks p .sound .vectorLimit _ from)
 
 sub-self : tie.Need-sub-self
 sub-self c =
-    let s = begun (passed (c .before .before .before .before .before .before .before .before .before .before .before .before .before .before)) in
-    let f = finds (c .before .before .before .before .before .before .before .before .before .before .before .before .before .before) in
+    let p = c .before .before .before .before .before .before .before .before .before .before .before .before .before .before in
+    let s = begun (passed p) in
+    let f = finds p in
     omega (arith, place-held (s .args .t1) (s .args .queue .now) _ (f .found) (f .some))
 
 same-length-3 : tie.Need-same-length-3
