@@ -5,11 +5,9 @@ use mathlib.Core.List.{List, []}
 use mathlib.Core.Path.{_∙_, _≡_, ap, ap₂, refl, subst, sym}
 use native.Mathlib.Omega.{arith}
 use borrow.Author.Tests.{ne-eqb}
-use lib.Dec.{eqb, eqb→eq, ltb}
+use lib.Dec.{eqb, ltb}
 use lib.ListN.{getD, length}
-use Rattle.wire.proofs.Tests.{not-not, of-false, or-not}
 use Rattle.wire.specs.Bytes.{put}
-use Rattle.wire.specs.Trailer.{hasTrailer}
 use Rattle.frame.specs.Frame.{decode}
 use Rattle.frame.specs.Header.{header}
 use Rattle.frame.specs.Refusals.{frameRefusal, wrongAddress, wrongContent, wrongKind, wrongTrailer}
@@ -38,45 +36,11 @@ use Rattle.node.specs.declared.Node.{Node as Record}
 use Rattle.node.specs.declared.OfferAnswer.the-variants as offerAnswer
 use Rattle.node.specs.declared.SendAnswer.the-variants as sendAnswer
 use Rattle.wire.specs.Limits.{maxBody}
-use Rattle.host.proofs.Numbers.{length-numbers}
+use Rattle.image.proofs.Read.{bad-sealed, bad-unsealed, record-read, unsealed}
 use Rattle.host.specs.Exports.{answerSize, deliverLeft, deliverTold, deliveryBytes, exportedDeliver, exportedOffer, exportedSend, exportedSetUp}
 use Rattle.host.specs.Exports.{DeliverLeft, OfferLeft, SendLeft, nothingBytes, offerBytes, offerLeft, offerTold, sendBytes, sendLeft, sendTold, setUpLeft}
-use Rattle.host.specs.Image.{badImage, image, imageSize, recordIn}
-use Rattle.host.specs.Stores.{withHeld, withMatrix, withVector}
-
--- ---- The image that is read
-
--- the first two reasons for 20
-abbrev pub unsealed : List ℕ → Bool
-unsealed i = not (eqb (length i) imageSize) || not (hasTrailer i)
-
-pub sealed-size : (i : List ℕ) → unsealed i ≡ false → length i ≡ imageSize
-sealed-size i e =
-    let w = or-not (not (eqb (length i) imageSize)) (not (hasTrailer i)) (of-false (unsealed i) e) in
-    eqb→eq (length i) imageSize (not-not (eqb (length i) imageSize) (w .0))
-
-bad-unsealed : (i : List ℕ) → unsealed i ≡ true → badImage i ≡ true
-unfolding badImage
-bad-unsealed i e = rw e
-
-bad-sealed : (i : List ℕ) → unsealed i ≡ false → badImage i ≡ brokenRecord (recordIn i)
-unfolding badImage
-bad-sealed i e = rw e
-
--- the record of the numbers that are read
-pub record-read : (i m v : List ℕ) → m ≡ recordIn i .m → v ≡ recordIn i .deliv
-    → record { me = getD i 0 0; n = getD i 1 0; cap = getD i 2 0; m = m; deliv = v; held = getD i 627 0 } ≡ recordIn i
-unfolding recordIn
-record-read i m v p q = λ z. record { me = getD i 0 0; n = getD i 1 0; cap = getD i 2 0; m = p z; deliv = q z; held = getD i 627 0 }
-
--- its arrays have their lengths
-pub record-cells : (i : List ℕ) → length (recordIn i .m) ≡ 144
-unfolding recordIn
-record-cells i = length-numbers i 3 144
-
-pub record-senders : (i : List ℕ) → length (recordIn i .deliv) ≡ 12
-unfolding recordIn
-record-senders i = length-numbers i 579 12
+use Rattle.image.specs.Image.{image, imageSize, recordIn}
+use Rattle.image.specs.Stores.{withHeld, withMatrix, withVector}
 
 -- ---- The first check that is met: b the record's, s the answer's length, t the other buffers', and rest what comes behind
 

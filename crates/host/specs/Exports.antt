@@ -19,7 +19,7 @@ use Rattle.node.specs.declared.DeliverAnswer.the-variants as deliverAnswer
 use Rattle.node.specs.Answers.{AfterSend, AfterOffer, AfterDeliver}
 use Rattle.node.specs.SetUp.{setUp}
 use Rattle.node.specs.Calls.{sendCall, offerCall, deliverCall}
-use Rattle.host.specs.Image.{badImage, image, imageSize, recordIn}
+use Rattle.image.specs.Image.{badImage, image, imageSize, recordIn}
 
 -- ---- the answer's bytes
 

@@ -1,6 +1,3 @@
--- To believe: the image of a record, and what each exported call leaves for its caller, the trail's among them.
--- Vocabulary of inner contracts: Stores, a record with one field changed.
-pub mod Image
+-- To believe, all: what each exported call leaves for its caller, the trail's among them (over images, whose definitions must be read first).
 pub mod Exports
 pub mod TrailExports
-pub mod Stores

@@ -1,7 +1,6 @@
 //! The node's calls for programs in Rust and C: the record is an image of 632 lent bytes, and each call returns 0 or its refusal and writes its answer
 //! into eleven lent bytes. Lent slices have any length; a refusal leaves every byte of them.
 mod answer;
-mod image;
 mod trail_calls;
 
 use node::deliver;

@@ -20,7 +20,7 @@ use Rattle.node.specs.Record.{nodeAt, nodeOf}
 use Rattle.node.specs.declared.Node.{Node as Record}
 use Rattle.soundness.proofs.HandedBack.{handedBack}
 use Rattle.soundness.specs.HandedBack.{SoundState}
-use Rattle.host.specs.Image.{SoundRecord}
+use Rattle.image.specs.Image.{SoundRecord}
 
 -- ---- by cases: what holds of every refusal, and of what the call leaves where it is not refused, holds of the call
 

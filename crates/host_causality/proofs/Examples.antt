@@ -13,7 +13,7 @@ use Rattle.node.specs.SetUp.{setUp}
 use Rattle.causality.proofs.Examples.{after, story, story-bodies, story-events}
 use Rattle.causality.specs.Demand3.{Event, Label, Step, delivery, refusal, start}
 use Rattle.host.specs.Exports.{SendLeft, exportedDeliver, exportedSend, exportedSetUp, sendLeft}
-use Rattle.host.specs.Image.{badImage}
+use Rattle.image.specs.Image.{badImage}
 use Rattle.host_causality.proofs.HostDemand3.{hostDemand3}
 use Rattle.host_causality.proofs.Sees.{Sees, forgetEvent, run-sees}
 use Rattle.host_causality.proofs.Starts.{start-sees}

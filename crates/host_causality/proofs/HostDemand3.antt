@@ -10,9 +10,9 @@ use Rattle.causality.proofs.Demand3.{acceptedOnce, demand3, listRefusals}
 use Rattle.causality.specs.AcceptedOnce.{AcceptedOnceFor}
 use Rattle.causality.specs.Demand3.{DeliveredAt, DeliversNew, Demand3For, Earliest, Event, Held, Issue, World, destination, heldAt, label, run, start}
 use Rattle.causality.specs.ListRefusals.{ListRefusalsFor}
-use Rattle.host.proofs.Images.{imageLaws}
+use Rattle.image.proofs.Images.{imageLaws}
 use Rattle.host.specs.Exports.{DeliverLeft, answerSize, exportedDeliver, exportedOffer}
-use Rattle.host.specs.Image.{SoundImage, image}
+use Rattle.image.specs.Image.{SoundImage, image}
 use Rattle.host_causality.proofs.Answers.{read-label}
 use Rattle.host_causality.proofs.Forgotten.{delivered-back}
 use Rattle.host_causality.proofs.Seen.{accepts-there, delivers-there, seen-demand3, seen-once, seen-refusals, sound, turn, v}

@@ -25,8 +25,8 @@ use Rattle.causality.specs.Demand3.{Delivered, Demand3For, DeliversNew, Earlies
 use Rattle.causality.specs.Demand3.{World, accepted, delivered, deliveries, delivery, destination, heldAt}
 use Rattle.causality.specs.Demand3.{offered, offersAccepted, queued, refusal}
 use Rattle.causality.specs.ListRefusals.{Expected, ListRefusalsFor, OneOf, impossible}
-use Rattle.host.proofs.Images.{imageLaws}
-use Rattle.host.specs.Image.{SoundRecord, recordIn}
+use Rattle.image.proofs.Images.{imageLaws}
+use Rattle.image.specs.Image.{SoundRecord, recordIn}
 use Rattle.host_causality.proofs.Calls.{sound-record}
 use Rattle.host_causality.proofs.Sees.{Sees, forgetEvent}
 use Rattle.host_causality.proofs.Forgotten.{accepted-back, before-back, delivered-back, delivered-there, same-answers, same-expected, same-given}

@@ -16,7 +16,7 @@ use Rattle.node.specs.declared.Node.{Node as Record}
 use Rattle.causality.specs.Demand3.{Answer, Event, Issue, Step, World, afterCall, deliverAt, delivers, framesIn, issuedBy, offerAt, offerIssue}
 use Rattle.causality.specs.Demand3.{offered, offers, run, sendAt, sends, sent, delivered, step}
 use Rattle.host.specs.Exports.{answerSize, exportedDeliver, exportedOffer, exportedSend}
-use Rattle.host.specs.Image.{SoundRecord, image}
+use Rattle.image.specs.Image.{SoundRecord, image}
 use Rattle.host_causality.proofs.Calls.{SoundNode, deliver-keeps, offer-keeps, send-keeps, sound-record}
 use Rattle.host_causality.proofs.Shown.{Shows, deliver-shown, forgetAnswer, offer-shown, send-shown}
 use Rattle.host_causality.proofs.Strays.{stray-leaves}

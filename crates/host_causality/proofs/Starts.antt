@@ -18,7 +18,7 @@ use Rattle.node.specs.declared.SetUpAnswer.the-variants.{Refused, Ready}
 use Rattle.soundness.proofs.HandedBack.{handedBack}
 use Rattle.causality.specs.Demand3.{start}
 use Rattle.host.specs.Exports.{SetUpLeft, exportedSetUp, setUpLeft, setUpTold}
-use Rattle.host.specs.Image.{image, imageSize}
+use Rattle.image.specs.Image.{image, imageSize}
 use Rattle.host_causality.proofs.Calls.{Shape}
 use Rattle.host_causality.proofs.Sees.{Sees}
 use Rattle.host_causality.specs.HostDemand3.{hostStart}

@@ -23,7 +23,7 @@ use Rattle.node.specs.declared.OfferAnswer.the-variants as offer
 use Rattle.node.specs.declared.DeliverAnswer.the-variants as deliver
 use Rattle.host.specs.Exports.{DeliverLeft, OfferLeft, SendLeft, SetUpLeft, answerSize, deliverLeft, deliverTold, exportedDeliver, exportedOffer}
 use Rattle.host.specs.Exports.{exportedSend, exportedSetUp, offerLeft, offerTold, sendLeft, sendTold, setUpLeft, setUpTold}
-use Rattle.host.specs.Image.{badImage, image, imageSize, recordIn}
+use Rattle.image.specs.Image.{badImage, image, imageSize, recordIn}
 use Rattle.host_causality.specs.HostDemand3.{HostWorld, Lent, Stray, StrayLeft, latest, lentBytes, other, putBack, straySetUp, strayDeliver, strayLeft}
 use Rattle.host_causality.specs.HostDemand3.{strayOffer, straySend}
 

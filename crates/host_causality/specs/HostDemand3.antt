@@ -26,7 +26,7 @@ use Rattle.causality.specs.Demand3.{Step, sends, offers, delivers, BodiesOfByte
 use Rattle.causality.specs.Demand3.{IssueAt, Label, label, destination, Delivered, Held, heldAt, Earliest, Demand3For}
 use Rattle.causality.specs.ListRefusals.{ListRefusalsFor}
 use Rattle.causality.specs.AcceptedOnce.{AcceptedOnceFor}
-use Rattle.host.specs.Image.{SoundImage, recordIn}
+use Rattle.image.specs.Image.{SoundImage, recordIn}
 use Rattle.host.specs.Exports.{answerSize, SendLeft, OfferLeft, DeliverLeft, exportedSetUp, exportedSend, exportedOffer, exportedDeliver}
 
 -- ---- The host's world

@@ -22,7 +22,7 @@ use Rattle.node.specs.Calls.{acceptDeliver, acceptOffer, acceptSend, deliverCal
 use Rattle.node.specs.CallRefusals.{deliverRefusal, holdRefusal, offerRefusal, recordRefusal, sendRefusal}
 use Rattle.node.specs.Record.{nodeAt, brokenRecord, nodeOf}
 use Rattle.node.specs.SetUp.{freshRecord, setUp}
-use Rattle.host.specs.Image.{recordIn}
+use Rattle.image.specs.Image.{recordIn}
 use Rattle.protocol.specs.Answer.{Label, Outcome, delivery}
 use Rattle.protocol.specs.Node.{atLimit}
 use Rattle.protocol.specs.Offer.{holding}

@@ -10,7 +10,7 @@ use Rattle.rules.specs.Rules.{brokenRules, inRange, withinLimit, zeroColumn, ze
 use Rattle.node.specs.Record.{brokenRecord}
 use Rattle.node.specs.SetUp.{freshRecord, setUp}
 use Rattle.host.specs.Exports.{exportedSend, exportedSetUp}
-use Rattle.host.specs.Image.{badImage, fields, image, numbersAt, recordFields, recordIn}
+use Rattle.image.specs.Image.{badImage, fields, image, numbersAt, recordFields, recordIn}
 
 -- set-up: an image of 631 bytes meets 20, which stands behind 1; of 632 bytes nothing more is looked at
 short-image : exportedSetUp (replicate 631 0) 0 2 4 .status ≡ 20

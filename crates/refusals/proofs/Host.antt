@@ -26,7 +26,7 @@ use Rattle.node.specs.declared.SetUp.{SetUp}
 use Rattle.node.specs.declared.SetUpAnswer.the-variants as setUpAnswer
 use Rattle.host.specs.Exports.{DeliverLeft, OfferLeft, SendLeft, SetUpLeft, answerSize, deliverTold, offerTold}
 use Rattle.host.specs.Exports.{exportedDeliver, exportedOffer, exportedSend, exportedSetUp, sendTold, setUpLeft, setUpTold}
-use Rattle.host.specs.Image.{badImage, image, imageSize, recordIn}
+use Rattle.image.specs.Image.{badImage, image, imageSize, recordIn}
 use Rattle.refusals.proofs.First.{by-number, turned}
 use Rattle.refusals.specs.CallChecks.{deliverRest, hostDeliverChecks, hostOfferChecks, hostSendChecks, hostSetUpChecks, offerRest, sendRest}
 use Rattle.refusals.specs.Checks.{firstMet}

@@ -23,7 +23,7 @@ use Rattle.holdback.specs.WrongQueue.{wrongQueue}
 use Rattle.node.specs.declared.Node.{Node as Record}
 use Rattle.node.specs.Record.{brokenRecord, nodeOf, nodeAt}
 use Rattle.node.specs.Sizes.{outSize}
-use Rattle.host.specs.Image.{badImage, imageSize, recordIn}
+use Rattle.image.specs.Image.{badImage, imageSize, recordIn}
 use Rattle.host.specs.Exports.{answerSize}
 use Rattle.request.specs.Refusal18.{refused18}
 use Rattle.refusals.specs.Checks.{Check, check}

@@ -1,8 +1,11 @@
-//! Lists over links that lose, repeat, delay, reorder and damage frames, bring them to wrong nodes and starve a node.
+//! Lists over links that lose, repeat, delay, reorder and damage frames, bring them to wrong nodes and starve a node, with
+//! refused calls beside the list's own.
 
-use crate::lists::{Pairs, Step, Totals};
-use generate::{frames, records};
+use crate::lists::{Pairs, Step, Stray, Totals};
+use generate::{frames, records, Call};
 use reference::history::ensure;
+use reference::host::ANSWER;
+use reference::image::IMAGE;
 use reference::random::Random;
 use reference::{DeliverAnswer, OfferAnswer, Record, SendAnswer};
 
@@ -31,6 +34,9 @@ pub fn hostile(random: &mut Random, steps: usize, totals: Totals) -> Step<Totals
                 pairs.deliver(node)?;
             }
             _ => link(random, &mut pairs)?,
+        }
+        if random.once_in(10) {
+            stray(random, &mut pairs)?;
         }
         if index % BETWEEN == BETWEEN - 1 {
             pairs.check_progress()?;
@@ -107,6 +113,22 @@ fn bring_damaged(random: &mut Random, pairs: &mut Pairs, issue: usize) -> Step<(
     }
     pairs.offer(to, &frame)?;
     Ok(())
+}
+
+/// A call that is refused whatever else it is lent: a set-up of a node in use with numbers out of range or on a part of
+/// its image, any other call on a part of an image or with a short answer.
+fn stray(random: &mut Random, pairs: &mut Pairs) -> Step<()> {
+    let n = pairs.n();
+    let (image, shelf, cut) = (random.below(n), random.below(n), random.once_in(2));
+    let image_length = if cut { random.pick(&[0, 628, IMAGE - 1]) } else { IMAGE };
+    let call = match random.below(4) {
+        0 => Call::SetUp { me: if cut { image } else { n }, n, cap: n },
+        1 => Call::Send { to: random.below(n + 1), body: frames::any_body(random) },
+        2 => Call::Offer { frame: pairs.issued.last().cloned().unwrap_or_default() },
+        _ => Call::Deliver,
+    };
+    let answer_length = if cut { ANSWER } else { random.below(ANSWER) };
+    pairs.stray(call, Stray { image, image_length, shelf, answer_length })
 }
 
 /// Offers all frames again and delivers until nothing moves; then every issued frame is delivered.

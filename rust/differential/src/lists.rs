@@ -67,12 +67,24 @@ pub struct Reached {
     pub refused_at_sixteen: usize,
     /// Issued frames offered at a node that is not their destination.
     pub astray: usize,
+    /// Refused calls beside the list's own.
+    pub strays: usize,
     /// Earliest undelivered frames that an offer had to take.
     pub earliest_taken: usize,
     /// Earliest undelivered frames that were held already.
     pub earliest_held: usize,
     /// Earliest undelivered frames that were not held where 16 others were.
     pub earliest_shut_out: usize,
+}
+
+/// What a call beside the list's own is lent: so many bytes of a node's latest image, the latest shelf of a node, which
+/// may be another, and so many bytes for the answer.
+#[derive(Clone, Copy, Debug)]
+pub struct Stray {
+    pub image: usize,
+    pub image_length: usize,
+    pub shelf: usize,
+    pub answer_length: usize,
 }
 
 /// Why a list stops: the two sides differ, or what both answered breaks a conclusion of demand 3.
@@ -200,6 +212,28 @@ impl Pairs {
             pairs.step(node, Call::Deliver)?;
             Ok(())
         })
+    }
+
+    /// A call beside the list's own, which has to be refused; the list goes on with the bytes that it left.
+    pub fn stray(&mut self, call: Call, stray: Stray) -> Step<()> {
+        let Stray { image, image_length, shelf, answer_length } = stray;
+        let lent = |shelf: &[u8]| {
+            let (out, body_out) = (vec![FILL; OUTPUT], vec![FILL; Record::BODY]);
+            Buffers { shelf: shelf.to_vec(), out, body_out, answer: vec![FILL; answer_length], ..Buffers::default() }
+        };
+        let (case_buffers, mut buffers) = (lent(&self.seats[shelf].shelf), lent(&self.seats[shelf].lent_shelf));
+        let seat = &self.seats[image];
+        let found = run_lent(seat.lent_image[..image_length].to_vec(), &call, &mut buffers);
+        let case = Case { image: seat.image[..image_length].to_vec(), made: Made::Found, call, buffers: case_buffers };
+        let expected = judge(&case, &found, &buffers)?;
+        ensure(found.number != 0, || format!("a call beside the list is taken: {stray:?}, {:?}", case.call))?;
+        self.totals.reached.strays += 1;
+        let seat = &mut self.seats[image];
+        seat.image[..image_length].copy_from_slice(&expected.image);
+        seat.lent_image[..image_length].copy_from_slice(&found.image);
+        let seat = &mut self.seats[shelf];
+        (seat.shelf, seat.lent_shelf) = (expected.buffers.shelf, buffers.shelf);
+        Ok(())
     }
 
     /// Demand 3's conclusions about the list so far. Once, kept and carried are checked in every step.

@@ -19,11 +19,12 @@ use Rattle.node.specs.CallRefusals.{Finds, deliverRefusal, shortOutputs}
 use Rattle.node.specs.Calls.{deliverCall}
 use Rattle.node.specs.declared.DeliverAnswer.the-variants.{Frame}
 use Rattle.node.specs.declared.Node.{Node as Record}
-use Rattle.host.proofs.Left.{DeliverReady, deliver-20, deliver-done, deliver-nothing, deliver-ready, deliver-small, deliver-taken, deliver-why}
-use Rattle.host.proofs.Left.{record-cells, record-read, record-senders, sealed-size, shortLent, unsealed}
+use Rattle.host.proofs.Left.{DeliverReady, deliver-20, deliver-done, deliver-nothing, deliver-ready, deliver-small, deliver-taken}
+use Rattle.host.proofs.Left.{deliver-why, shortLent}
+use Rattle.image.proofs.Read.{record-cells, record-read, record-senders, sealed-size, unsealed}
 use Rattle.host.specs.Exports.{answerSize}
-use Rattle.host.specs.Image.{imageSize, recordIn}
-use Rattle.host.specs.Stores.{withHeld, withMatrix, withVector}
+use Rattle.image.specs.Image.{imageSize, recordIn}
+use Rattle.image.specs.Stores.{withHeld, withMatrix, withVector}
 use Rattle.host.proofs.node_deliver.Statement.{statement}
 use Rattle.host.proofs.node_deliver.Tie as tie
 

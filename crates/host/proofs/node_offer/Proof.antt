@@ -15,9 +15,10 @@ use Rattle.node.proofs.Offering.{Holdable, offer-accepted, offer-leaves, offera
 use Rattle.node.specs.CallRefusals.{recordRefusal, takeRefusal}
 use Rattle.node.specs.Record.{nodeAt}
 use Rattle.node.specs.declared.Node.{Node as Record}
-use Rattle.host.proofs.Left.{OfferReady, offer-20, offer-done, offer-ready, offer-why, record-read, sealed-size, unsealed}
+use Rattle.host.proofs.Left.{OfferReady, offer-20, offer-done, offer-ready, offer-why}
+use Rattle.image.proofs.Read.{record-read, sealed-size, unsealed}
 use Rattle.host.specs.Exports.{answerSize}
-use Rattle.host.specs.Image.{imageSize, recordIn}
+use Rattle.image.specs.Image.{imageSize, recordIn}
 use Rattle.host.proofs.node_offer.Statement.{statement}
 use Rattle.host.proofs.node_offer.Tie as tie
 

@@ -13,10 +13,10 @@ use Rattle.node.specs.Calls.{sendCall}
 use Rattle.node.specs.declared.Node.{Node as Record}
 use Rattle.node.specs.declared.SendAnswer.the-variants.{Sent}
 use Rattle.host.proofs.Left.{SendReady, send-20, send-cells, send-done, send-issued, send-ready, send-small, send-why, sendRoom}
-use Rattle.host.proofs.Left.{record-cells, record-read, sealed-size, unsealed}
+use Rattle.image.proofs.Read.{record-cells, record-read, sealed-size, unsealed}
 use Rattle.host.specs.Exports.{answerSize}
-use Rattle.host.specs.Image.{imageSize, recordIn}
-use Rattle.host.specs.Stores.{withMatrix}
+use Rattle.image.specs.Image.{imageSize, recordIn}
+use Rattle.image.specs.Stores.{withMatrix}
 use Rattle.host.proofs.node_send.Statement.{statement}
 use Rattle.host.proofs.node_send.Tie as tie
 

@@ -1,11 +1,25 @@
 -- One field after the other. Assumes nothing.
-use mathlib.Core.Path.{_∙_, _≡_}
+use Prim.Native.Nat.{_+_, ℕ}
+use mathlib.Core.List.{List, _∷_}
+use mathlib.Core.Path.{_∙_, _≡_, ap, sym}
 use native.Mathlib.Omega.{arith}
 use lib.ListN.{length, length-set, set}
-use Rattle.host.proofs.Stored.{answer-written}
+use Rattle.wire.proofs.Bytes.{length-le32, put-append}
+use Rattle.wire.specs.Bytes.{le16, le32, put}
+use Rattle.host.specs.Exports.{answerBytes}
 use borrow.Author.Needs.{needs}
 use Rattle.host.proofs.answer.write.Statement.{statement}
 use Rattle.host.proofs.answer.write.Tie as tie
+
+-- the answer's eleven bytes, one field after the other
+answer-written : (s : List ℕ) (kind from number tried body extras bytes : ℕ)
+    → put (set (set (set (put (set (set s 0 kind) 1 from) 2 (le32 number)) 6 tried) 7 body) 8 extras) 9 (le16 bytes)
+    ≡ put s 0 (answerBytes kind from number tried body extras bytes)
+unfolding put answerBytes
+answer-written s kind from number tried body extras bytes =
+    let o : List ℕ = set (set s 0 kind) 1 from in
+    let rest : List ℕ = tried ∷ body ∷ extras ∷ le16 bytes in
+    sym (put-append o 2 (le32 number) rest ∙ ap (λ (k : ℕ). put (put o 2 (le32 number)) (2 + k) rest) (length-le32 number))
 
 -- the call's start
 abbrev start : tie.After-put-u32 → tie.Start

@@ -1,20 +1,20 @@
--- How an image is written, one field after the other over other bytes and then the trailer, and an answer. Assumes nothing.
+-- How an image is written, one field after the other over other bytes and then the trailer. Assumes nothing.
 use Prim.Native.Nat.{_+_, _-_, _≤_, ℕ}
 use mathlib.Core.List.{List, [], _++_, _∷_, append-assoc, append-nil}
 use mathlib.Core.Path.{_∙_, _≡_, ap, sym}
 use native.Mathlib.Omega.{arith}
 use lib.ListN.{drop, length, length-append, length-drop, set, take}
 use lib.Seq.{drop-at, take-at}
-use Rattle.wire.proofs.Bytes.{length-le32, put-append, put-eq}
+use Rattle.wire.proofs.Bytes.{put-eq}
 use Rattle.wire.proofs.Trailer.{length-trailer}
-use Rattle.wire.specs.Bytes.{AllBytes, le16, le32, put}
+use Rattle.wire.specs.Bytes.{AllBytes, put}
 use Rattle.wire.specs.Trailer.{sealed, trailer}
 use Rattle.node.specs.declared.Node.{Node as Record}
-use Rattle.host.proofs.Images.{fields-then, length-record, rest-fields}
-use Rattle.host.proofs.Numbers.{length-fields, length-numbers}
-use Rattle.host.specs.Exports.{answerBytes}
-use Rattle.host.specs.Image.{fields, image, imageSize, recordFields, recordIn}
-use Rattle.host.specs.Stores.{withHeld, withMatrix, withVector}
+use Rattle.image.proofs.Images.{fields-then, length-record, rest-fields}
+use Rattle.image.proofs.Numbers.{length-fields}
+use Rattle.image.proofs.Read.{record-cells, record-senders}
+use Rattle.image.specs.Image.{fields, image, imageSize, recordFields, recordIn}
+use Rattle.image.specs.Stores.{withHeld, withMatrix, withVector}
 
 -- bytes written over as many others, between what stands in front and behind
 put-over : (p x y t : List ℕ) (k : ℕ) → length p ≡ k → length y ≡ length x → put (p ++ (x ++ t)) k y ≡ p ++ (y ++ t)
@@ -38,11 +38,10 @@ laid-as e l = record { cells = l .cells; senders = l .senders; tail = l .tail; f
 
 -- they do in any bytes of an image's length
 pub laid-read : (s : List ℕ) → AllBytes s → length s ≡ imageSize → Laid (recordIn s) s
-unfolding recordIn
 laid-read s b h =
     record {
-      cells = length-numbers s 3 144;
-      senders = length-numbers s 579 12;
+      cells = record-cells s;
+      senders = record-senders s;
       tail = drop 628 s;
       four = omega (arith, length-drop 628 s);
       same = rest-fields s b (omega arith) ∙ fields-then (recordIn s) (drop 628 s);
@@ -125,13 +124,3 @@ module _ (r : Record) (s : List ℕ) (l : Laid r s) where
       rw front (ap (λ (x : List ℕ). put x 628 (trailer f)) (e ∙ whole)
       ∙ put-over f (l .tail) (trailer f) [] 628 size (omega (arith, length-trailer f, l .four))
       ∙ ap (λ (x : List ℕ). f ++ x) (append-nil (trailer f)))
-
--- the answer's eleven bytes, one field after the other
-pub answer-written : (s : List ℕ) (kind from number tried body extras bytes : ℕ)
-    → put (set (set (set (put (set (set s 0 kind) 1 from) 2 (le32 number)) 6 tried) 7 body) 8 extras) 9 (le16 bytes)
-    ≡ put s 0 (answerBytes kind from number tried body extras bytes)
-unfolding put answerBytes
-answer-written s kind from number tried body extras bytes =
-    let o : List ℕ = set (set s 0 kind) 1 from in
-    let rest : List ℕ = tried ∷ body ∷ extras ∷ le16 bytes in
-    sym (put-append o 2 (le32 number) rest ∙ ap (λ (k : ℕ). put (put o 2 (le32 number)) (2 + k) rest) (length-le32 number))

@@ -1,9 +1,9 @@
 -- The numbers of M, then those of DELIV. Assumes nothing.
 use mathlib.Core.Path.{_∙_, ap}
-use Rattle.host.specs.Image.{numbersAt, recordIn}
+use Rattle.image.specs.Image.{numbersAt, recordIn}
 use borrow.Author.Needs.{needs}
-use Rattle.host.proofs.image.read_arrays.Statement.{statement}
-use Rattle.host.proofs.image.read_arrays.Tie as tie
+use Rattle.image.proofs.read_arrays.Statement.{statement}
+use Rattle.image.proofs.read_arrays.Tie as tie
 
 read-numbers-requires : tie.Need-read-numbers-requires
 read-numbers-requires c κs = search needs

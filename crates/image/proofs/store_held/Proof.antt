@@ -2,10 +2,10 @@
 use mathlib.Core.Path.{_∙_}
 use native.Mathlib.Omega.{arith}
 use lib.ListN.{length-set}
-use Rattle.host.proofs.Stored.{laid-held, laid-read, laid-sealed}
+use Rattle.image.proofs.Stored.{laid-held, laid-read, laid-sealed}
 use borrow.Author.Needs.{needs}
-use Rattle.host.proofs.image.store_held.Statement.{statement}
-use Rattle.host.proofs.image.store_held.Tie as tie
+use Rattle.image.proofs.store_held.Statement.{statement}
+use Rattle.image.proofs.store_held.Tie as tie
 
 slice-write-s : tie.Need-slice-write-s
 slice-write-s c = search needs

@@ -7,8 +7,8 @@ ghost use lib.ListN.{length};
 ghost use Rattle.wire.specs.Bytes.{put};
 ghost use Rattle.wire.specs.Trailer.{hasTrailer};
 ghost use Rattle.node.specs.SetUp.{freshRecord};
-ghost use Rattle.host.specs.Image.{fields, numbersAt, image, recordIn, imageSize};
-ghost use Rattle.host.specs.Stores.{withHeld, withMatrix, withVector};
+ghost use Rattle.image.specs.Image.{fields, numbersAt, image, recordIn, imageSize};
+ghost use Rattle.image.specs.Stores.{withHeld, withMatrix, withVector};
 
 /// Bytes of an image.
 pub const SIZE: usize = 632;

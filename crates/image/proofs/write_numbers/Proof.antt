@@ -6,10 +6,10 @@ use borrow.Author.Needs.{needs}
 use lib.ListN.{drop, length}
 use Rattle.wire.proofs.Bytes.{length-put}
 use Rattle.wire.specs.Bytes.{put}
-use Rattle.host.proofs.Numbers.{fields-end, fields-rest}
-use Rattle.host.specs.Image.{fields}
-use Rattle.host.proofs.image.write_numbers.Statement.{statement}
-use Rattle.host.proofs.image.write_numbers.Tie as tie
+use Rattle.image.proofs.Numbers.{fields-end, fields-rest}
+use Rattle.image.specs.Image.{fields}
+use Rattle.image.proofs.write_numbers.Statement.{statement}
+use Rattle.image.proofs.write_numbers.Tie as tie
 
 abbrev Inv-loop : tie.InvT-loop
 Inv-loop s₀ at a k₀ s k = (k ≤ length a) × (length s ≡ length s₀) × (put s (at + 4 * k) (fields (drop k a)) ≡ put s₀ at (fields a))

@@ -1,9 +1,9 @@
 -- The length, then the trailer. Assumes nothing.
 use borrow.Author.Tests.{eq-eqb, ne-eqb}
-use Rattle.host.specs.Image.{imageSize}
+use Rattle.image.specs.Image.{imageSize}
 use borrow.Author.Needs.{needs}
-use Rattle.host.proofs.image.unsealed.Statement.{statement}
-use Rattle.host.proofs.image.unsealed.Tie as tie
+use Rattle.image.proofs.unsealed.Statement.{statement}
+use Rattle.image.proofs.unsealed.Tie as tie
 
 returns : tie.Need-returns
 returns c = rw (ne-eqb _ imageSize (c .if1 .taken))

@@ -2,10 +2,10 @@
 use mathlib.Core.Path.{_∙_, _≡_, refl}
 use native.Mathlib.Omega.{arith}
 use lib.ListN.{length, length-set, set}
-use Rattle.host.proofs.Stored.{laid-as, laid-front, laid-held, laid-matrix, laid-read, laid-sealed, laid-vector}
+use Rattle.image.proofs.Stored.{laid-as, laid-front, laid-held, laid-matrix, laid-read, laid-sealed, laid-vector}
 use borrow.Author.Needs.{needs}
-use Rattle.host.proofs.image.store_fresh.Statement.{statement}
-use Rattle.host.proofs.image.store_fresh.Tie as tie
+use Rattle.image.proofs.store_fresh.Statement.{statement}
+use Rattle.image.proofs.store_fresh.Tie as tie
 
 -- the call's start
 abbrev start : tie.After-write-numbers → tie.Start

@@ -1,9 +1,9 @@
 -- The matrix, then the trailer. Assumes nothing.
 use mathlib.Core.Path.{_∙_}
-use Rattle.host.proofs.Stored.{laid-as, laid-matrix, laid-read, laid-sealed}
+use Rattle.image.proofs.Stored.{laid-as, laid-matrix, laid-read, laid-sealed}
 use borrow.Author.Needs.{needs}
-use Rattle.host.proofs.image.store_matrix.Statement.{statement}
-use Rattle.host.proofs.image.store_matrix.Tie as tie
+use Rattle.image.proofs.store_matrix.Statement.{statement}
+use Rattle.image.proofs.store_matrix.Tie as tie
 
 write-numbers-requires : tie.Need-write-numbers-requires
 write-numbers-requires c κs = search needs

@@ -20,8 +20,9 @@ use Rattle.matrix.specs.Array.{entry, vector}
 use Rattle.rules.proofs.Facts.{Unbroken, unbroken}
 use Rattle.node.specs.Record.{brokenRecord}
 use Rattle.node.specs.declared.Node.{Node as Record}
-use Rattle.host.proofs.Numbers.{length-fields, length-numbers}
-use Rattle.host.specs.Image.{ImageLaws, SoundImage, SoundRecord, badImage, fields, image, imageSize, numbersAt, recordFields, recordIn}
+use Rattle.image.proofs.Numbers.{length-fields}
+use Rattle.image.proofs.Read.{record-cells, record-senders}
+use Rattle.image.specs.Image.{ImageLaws, SoundImage, SoundRecord, badImage, fields, image, imageSize, numbersAt, recordFields, recordIn}
 
 -- ---- Fields
 
@@ -147,11 +148,10 @@ module _ (s : List ℕ) (b : AllBytes s) where
       ∙ sym (fields-then (recordIn s) (drop 628 s))
 
   fields-back : 628 ≤ length s → take 628 s ≡ recordFields (recordIn s)
-  unfolding recordIn
   fields-back h =
       ap (take 628) (rest-fields h)
       ∙ take-at (recordFields (recordIn s)) (drop 628 s) 628
-      (length-record (recordIn s) (length-numbers s 3 144) (length-numbers s 579 12))
+      (length-record (recordIn s) (record-cells s) (record-senders s))
 
 -- ---- Sound records and sound images
 
@@ -220,8 +220,7 @@ module _ (s : List ℕ) (h : SoundImage s) where
   size = eqb→eq (length s) imageSize (not-not (eqb (length s) imageSize) (kept .0))
 
   read : SoundRecord (recordIn s)
-  unfolding recordIn
-  read = record { cells = length-numbers s 3 144; senders = length-numbers s 579 12; rules = is-false (brokenRecord (recordIn s)) (kept .2) }
+  read = record { cells = record-cells s; senders = record-senders s; rules = is-false (brokenRecord (recordIn s)) (kept .2) }
 
   spelled : image (recordIn s) ≡ s
   unfolding image

@@ -9,7 +9,7 @@ use lib.ListN.{drop, getD, length, length-append, length-set, set}
 use lib.Seq.{ext-getD, getD-set-other, getD-set-same}
 use Rattle.wire.proofs.Bytes.{length-le32, put-append, put-nil, rest, rest-end}
 use Rattle.wire.specs.Bytes.{le32, put, u32At}
-use Rattle.host.specs.Image.{fields, numbersAt}
+use Rattle.image.specs.Image.{fields, numbersAt}
 
 pub length-fields : (l : List ℕ) → length (fields l) ≡ 4 * length l
 unfolding fields

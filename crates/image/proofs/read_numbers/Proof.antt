@@ -3,9 +3,9 @@ use Prim.Native.Nat.{_-_}
 use native.Mathlib.Omega.{arith}
 use borrow.Author.Needs.{needs}
 use lib.ListN.{length}
-use Rattle.host.proofs.Numbers.{ReadTo, read-end, read-start, read-turn}
-use Rattle.host.proofs.image.read_numbers.Statement.{statement}
-use Rattle.host.proofs.image.read_numbers.Tie as tie
+use Rattle.image.proofs.Numbers.{ReadTo, read-end, read-start, read-turn}
+use Rattle.image.proofs.read_numbers.Statement.{statement}
+use Rattle.image.proofs.read_numbers.Tie as tie
 
 abbrev Inv-loop : tie.InvT-loop
 Inv-loop s at a₀ k₀ a k = ReadTo s at a₀ a k
