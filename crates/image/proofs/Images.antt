@@ -14,7 +14,7 @@ use Rattle.wire.proofs.Bytes.{bytes-append, four-back, four-bytes, length-le32,
 use Rattle.wire.proofs.Tests.{eq→eqb, is-false, no-three, not-not, not-or, of-false, T-not-not}
 use Rattle.wire.proofs.Trailer.{bytes-sealed, has-sealed, length-sealed, sealed-has}
 use Rattle.wire.specs.Bytes.{AllBytes, le32, u32At}
-use Rattle.wire.specs.Trailer.{hasTrailer, sealed, trailer}
+use Rattle.wire.specs.Trailer.{hasTrailer, sealed}
 use Rattle.matrix.proofs.Array.{entry-place}
 use Rattle.matrix.specs.Array.{entry, vector}
 use Rattle.rules.proofs.Facts.{Unbroken, unbroken}
@@ -177,7 +177,7 @@ module _ (r : Record) (h : SoundRecord r) where
 
   back : recordIn (image r) ≡ r
   unfolding image sealed
-  back = record-back r (h .cells) (h .senders) matrix-fits vector-fits (trailer (recordFields r))
+  back = record-back r (h .cells) (h .senders) matrix-fits vector-fits _
 
   bytes-record : AllBytes (recordFields r)
   unfolding recordFields

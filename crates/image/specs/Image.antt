@@ -10,10 +10,7 @@ use Rattle.wire.specs.Trailer.{sealed, hasTrailer}
 use Rattle.node.specs.declared.Node.{Node as Record}
 use Rattle.node.specs.Record.{brokenRecord}
 
--- bytes of an image's fields, and of a whole image
-abbrev pub fieldsSize : ℕ
-fieldsSize = 628
-
+-- bytes of an image: 628 of fields, and four of the trailer
 abbrev pub imageSize : ℕ
 imageSize = 632
 
