@@ -1,14 +1,15 @@
 -- How an image is written, one field after the other over other bytes and then the trailer. Assumes nothing.
 use Prim.Native.Nat.{_+_, _-_, _≤_, ℕ}
 use mathlib.Core.List.{List, [], _++_, _∷_, append-assoc, append-nil}
-use mathlib.Core.Path.{_∙_, _≡_, ap, sym}
+use mathlib.Core.Path.{_∙_, _≡_, ap, refl, sym}
 use native.Mathlib.Omega.{arith}
-use lib.ListN.{drop, length, length-append, length-drop, set, take}
+use lib.ListN.{drop, length, length-append, length-drop, replicate, set, take}
 use lib.Seq.{drop-at, take-at}
 use Rattle.wire.proofs.Bytes.{put-eq}
 use Rattle.wire.proofs.Trailer.{length-trailer}
-use Rattle.wire.specs.Bytes.{AllBytes, put}
+use Rattle.wire.specs.Bytes.{AllBytes, le32, put}
 use Rattle.wire.specs.Trailer.{sealed, trailer}
+use Rattle.node.specs.SetUp.{freshRecord}
 use Rattle.node.specs.declared.Node.{Node as Record}
 use Rattle.image.proofs.Images.{fields-then, length-record, rest-fields}
 use Rattle.image.proofs.Numbers.{length-fields}
@@ -24,6 +25,10 @@ put-over p x y t k e h =
     let behind : drop (k + length y) o ≡ t
     = ap (drop (k + length y)) (sym (append-assoc p x t)) ∙ drop-at (p ++ x) t (k + length y) (omega (arith, length-append p x)) in
     put-eq o k y fits ∙ rw (take-at p (x ++ t) k e, behind)
+
+-- bytes written over all of as many others
+pub put-whole : (x y : List ℕ) → length y ≡ length x → put x 0 y ≡ y
+put-whole x y h = ap (λ (o : List ℕ). put o 0 y) (sym (append-nil x)) ∙ put-over [] x y [] 0 refl h ∙ append-nil y
 
 -- the fields of r stand in s, with four more bytes behind
 pub record Laid (r : Record) (s : List ℕ) : Type 0 where
@@ -46,6 +51,11 @@ laid-read s b h =
       four = omega (arith, length-drop 628 s);
       same = rest-fields s b (omega arith) ∙ fields-then (recordIn s) (drop 628 s);
     }
+
+-- and those of the all-zero record in 632 zeros
+pub laid-zeros : Laid (freshRecord 0 0 0) (replicate 632 0)
+unfolding fields le32
+laid-zeros = record { cells = refl; senders = refl; tail = replicate 4 0; four = refl; same = refl }
 
 module _ (r : Record) (s : List ℕ) (l : Laid r s) where
   abbrev behind : List ℕ
