@@ -1,3 +1,5 @@
 -- Laws that the proofs of this crate cite.
 pub mod Left
+pub mod Cases
+pub mod Refused
 pub mod TrailTold

@@ -21,11 +21,11 @@ use Rattle.node.specs.declared.OfferAnswer.the-variants as offer
 use Rattle.node.specs.declared.DeliverAnswer.the-variants as deliver
 use Rattle.causality.specs.Demand3.{Answer, Step, bytesIssued, delivered, delivers, offered, offers, refusal, sends, sent}
 use Rattle.image.proofs.Images.{imageLaws}
+use Rattle.host.proofs.Cases.{deliver-cases, offer-cases, send-cases}
 use Rattle.host.specs.Exports.{DeliverLeft, OfferLeft, SendLeft, answerSize, deliverTold, deliverLeft, exportedDeliver, exportedOffer}
 use Rattle.host.specs.Exports.{exportedSend, offerLeft, offerTold, sendLeft, sendTold}
 use Rattle.image.specs.Image.{SoundRecord, badImage, image, recordIn}
 use Rattle.host_causality.proofs.Answers.{read-delivery, read-nothing, read-offered, read-sent}
-use Rattle.host_causality.proofs.Calls.{deliver-cases, offer-cases, send-cases}
 use Rattle.host_causality.specs.HostDemand3.{bytesTold, readAnswer}
 
 -- an answer without what an accepted offer does not tell the host: how many are held, and whether the frame was deliverable

@@ -21,7 +21,7 @@ use Rattle.rules.proofs.Facts.{Unbroken, unbroken}
 use Rattle.node.specs.Record.{brokenRecord}
 use Rattle.node.specs.declared.Node.{Node as Record}
 use Rattle.image.proofs.Numbers.{length-fields}
-use Rattle.image.proofs.Read.{record-cells, record-senders}
+use Rattle.image.proofs.Read.{good-record, record-cells, record-senders}
 use Rattle.image.specs.Image.{ImageLaws, SoundImage, SoundRecord, badImage, fields, image, imageSize, numbersAt, recordFields, recordIn}
 
 -- ---- Fields
@@ -220,7 +220,7 @@ module _ (s : List ℕ) (h : SoundImage s) where
   size = eqb→eq (length s) imageSize (not-not (eqb (length s) imageSize) (kept .0))
 
   read : SoundRecord (recordIn s)
-  read = record { cells = record-cells s; senders = record-senders s; rules = is-false (brokenRecord (recordIn s)) (kept .2) }
+  read = record { cells = record-cells s; senders = record-senders s; rules = good-record s (h .good) }
 
   spelled : image (recordIn s) ≡ s
   unfolding image

@@ -5,7 +5,7 @@ use mathlib.Core.List.{List}
 use mathlib.Core.Path.{_≡_}
 use lib.Dec.{eqb, eqb→eq}
 use lib.ListN.{getD, length}
-use Rattle.wire.proofs.Tests.{not-not, of-false, or-not}
+use Rattle.wire.proofs.Tests.{is-false, no-three, not-not, of-false, or-not}
 use Rattle.wire.specs.Trailer.{hasTrailer}
 use Rattle.node.specs.Record.{brokenRecord}
 use Rattle.image.proofs.Numbers.{length-numbers}
@@ -27,6 +27,13 @@ bad-unsealed i e = rw e
 pub bad-sealed : (i : List ℕ) → unsealed i ≡ false → badImage i ≡ brokenRecord (recordIn i)
 unfolding badImage
 bad-sealed i e = rw e
+
+-- an image that does not meet 20 has a record that does not meet 2
+pub good-record : (i : List ℕ) → badImage i ≡ false → brokenRecord (recordIn i) ≡ false
+unfolding badImage
+good-record i e =
+    let b = brokenRecord (recordIn i) in
+    is-false b (no-three (not (eqb (length i) imageSize)) (not (hasTrailer i)) b (of-false (badImage i) e) .2)
 
 -- the record of the numbers that are read
 pub record-read : (i m v : List ℕ) → m ≡ recordIn i .m → v ≡ recordIn i .deliv

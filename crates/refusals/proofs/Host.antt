@@ -6,9 +6,7 @@ use mathlib.Core.Path.{_∙_, _≡_, ap, refl}
 use native.Mathlib.Omega.{arith}
 use lib.Dec.{eqb, ltb}
 use lib.ListN.{length}
-use Rattle.wire.proofs.Tests.{is-false, no-three, of-false}
 use Rattle.wire.specs.Limits.{maxBody}
-use Rattle.wire.specs.Trailer.{hasTrailer}
 use Rattle.rules.specs.Rules.{inRange}
 use Rattle.holdback.specs.Slots.{queueSize}
 use Rattle.node.specs.Answers.{AfterDeliver, AfterOffer, AfterSend, deliverNumber, offerNumber, sendNumber}
@@ -26,6 +24,8 @@ use Rattle.node.specs.declared.SetUp.{SetUp}
 use Rattle.node.specs.declared.SetUpAnswer.the-variants as setUpAnswer
 use Rattle.host.specs.Exports.{DeliverLeft, OfferLeft, SendLeft, SetUpLeft, answerSize, deliverTold, offerTold}
 use Rattle.host.specs.Exports.{exportedDeliver, exportedOffer, exportedSend, exportedSetUp, sendTold, setUpLeft, setUpTold}
+use Rattle.host.proofs.Refused.{deliver-leaves, offer-leaves, send-leaves, set-up-leaves}
+use Rattle.image.proofs.Read.{good-record}
 use Rattle.image.specs.Image.{badImage, image, imageSize, recordIn}
 use Rattle.refusals.proofs.First.{by-number, turned}
 use Rattle.refusals.specs.CallChecks.{deliverRest, hostDeliverChecks, hostOfferChecks, hostSendChecks, hostSetUpChecks, offerRest, sendRest}
@@ -34,13 +34,6 @@ use Rattle.refusals.specs.Demand1.{DeliverSays, HostDeliverSays, HostOff
 
 -- ---- 20 for 2
 
--- an image that does not meet 20 has a record that does not meet 2
-sound-record : (i : List ℕ) → badImage i ≡ false → brokenRecord (recordIn i) ≡ false
-unfolding badImage
-sound-record i e =
-    let b = brokenRecord (recordIn i) in
-    is-false b (no-three (not (eqb (length i) imageSize)) (not (hasTrailer i)) b (of-false (badImage i) e) .2)
-
 -- a call that looks at 20 and at the answer's length before the node's 2 and 3 has 20 for 2, and the answer's length in 3
 status-of : {C : Type 0} (status : C → ℕ) (bad short broken t₃ : Bool) (rest : ℕ) {x y z : C} → (bad ≡ false → broken ≡ false)
     → status x ≡ 20 → status y ≡ 3 → status z ≡ cond broken 2 (cond t₃ 3 rest)
@@ -48,12 +41,6 @@ status-of : {C : Type 0} (status : C → ℕ) (bad short broken t₃ : Bool) (re
 status-of status true short broken t₃ rest h p q e = p
 status-of status false true broken t₃ rest h p q e = q ∙ rw (or-true t₃)
 status-of status false false broken t₃ rest h p q e = e ∙ rw (h refl, or-false t₃)
-
--- what holds where 20 is given, where 3 is given for the answer's length, and of what the node told, holds of the call
-holds-of : {C : Type 0} (P : C → Type 0) (bad short : Bool) {x y z : C} → P x → P y → P z → P (cond bad x (cond short y z))
-holds-of P true short p q r = p
-holds-of P false true p q r = q
-holds-of P false false p q r = r
 
 -- ---- set-up
 module _ (i : List ℕ) (me n cap : ℕ) where
@@ -76,11 +63,6 @@ module _ (i : List ℕ) (me n cap : ℕ) where
   set-up-status false true = refl
   set-up-status false false = refl
 
-  set-up-same : (far other : Bool) → ¬ (setUpBy far other .status ≡ 0) → setUpBy far other .image ≡ i
-  set-up-same true other h = refl
-  set-up-same false true h = refl
-  set-up-same false false h = absurd (h refl)
-
   pub host-set-up-says : HostSetUpSays i me n cap (exportedSetUp i me n cap)
   host-set-up-says =
       let far = not (inRange me n cap) in
@@ -90,22 +72,14 @@ module _ (i : List ℕ) (me n cap : ℕ) where
         numbered =
             by-number (hostSetUpChecks i me n cap) (exportedSetUp i me n cap .status) (omega arith)
             (ap (λ (c : SetUpLeft). c .status) set-up-by ∙ set-up-status far other);
-        same = rw set-up-by (set-up-same far other);
+        same = set-up-leaves i me n cap;
       }
 
 -- ---- send
 module _ (i : List ℕ) (to : ℕ) (body out answer : List ℕ) where
-  -- a send that is refused leaves all
-  abbrev SendSame : SendLeft → Type 0
-  SendSame c = ¬ (c .status ≡ 0) → (c .image ≡ i) × (c .out ≡ out) × (c .answer ≡ answer)
-
   send-number : (c : AfterSend) (a : SendAnswer) → sendTold i answer c a .status ≡ sendNumber a
   send-number c (sendAnswer.Refused k) = refl
   send-number c (sendAnswer.Sent bytes extras) = refl
-
-  send-same : (c : AfterSend) (a : SendAnswer) → (¬ (sendNumber a ≡ 0) → c .out ≡ out) → SendSame (sendTold i answer c a)
-  send-same c (sendAnswer.Refused k) f h = (refl, f h, refl)
-  send-same c (sendAnswer.Sent bytes extras) f h = absurd (h refl)
 
   pub host-send-says : SendSays (recordIn i) to body out (sendCall (recordIn i) to body out)
       → HostSendSays i to body out answer (exportedSend i to body out answer)
@@ -119,24 +93,15 @@ module _ (i : List ℕ) (to : ℕ) (body out answer : List ℕ) where
         numbered =
             by-number (hostSendChecks i to body out answer) (exportedSend i to body out answer .status) (omega arith)
             (status-of (λ (l : SendLeft). l .status) (badImage i) short (brokenRecord r) (ltb (length out) outSize) (firstMet (sendRest r to body))
-            (sound-record i) refl refl (send-number c (c .result .answer) ∙ says .answers .numbered .first));
-        same =
-            holds-of SendSame (badImage i) short (λ h. (refl, refl, refl)) (λ h. (refl, refl, refl))
-            (send-same c (c .result .answer) (λ h. says .same h .1));
+            (good-record i) refl refl (send-number c (c .result .answer) ∙ says .answers .numbered .first));
+        same = send-leaves i to body out answer;
       }
 
 -- ---- offer
 module _ (i s q answer : List ℕ) where
-  abbrev OfferSame : OfferLeft → Type 0
-  OfferSame c = ¬ (c .status ≡ 0) → (c .image ≡ i) × (c .queue ≡ q) × (c .answer ≡ answer)
-
   offer-number : (c : AfterOffer) (a : OfferAnswer) → offerTold i answer c a .status ≡ offerNumber a
   offer-number c (offerAnswer.Refused k) = refl
   offer-number c (offerAnswer.Held count ready) = refl
-
-  offer-same : (c : AfterOffer) (a : OfferAnswer) → (¬ (offerNumber a ≡ 0) → c .queue ≡ q) → OfferSame (offerTold i answer c a)
-  offer-same c (offerAnswer.Refused k) f h = (refl, f h, refl)
-  offer-same c (offerAnswer.Held count ready) f h = absurd (h refl)
 
   pub host-offer-says : OfferSays (recordIn i) s q (offerCall (recordIn i) s q) → HostOfferSays i s q answer (exportedOffer i s q answer)
   unfolding exportedOffer
@@ -149,27 +114,16 @@ module _ (i s q answer : List ℕ) where
         numbered =
             by-number (hostOfferChecks i s q answer) (exportedOffer i s q answer .status) (omega arith)
             (status-of (λ (l : OfferLeft). l .status) (badImage i) short (brokenRecord r) (not (eqb (length q) queueSize)) (firstMet (offerRest r s q))
-            (sound-record i) refl refl (offer-number c (c .result .answer) ∙ says .answers .numbered .first));
-        same =
-            holds-of OfferSame (badImage i) short (λ h. (refl, refl, refl)) (λ h. (refl, refl, refl))
-            (offer-same c (c .result .answer) (λ h. says .same h .1));
+            (good-record i) refl refl (offer-number c (c .result .answer) ∙ says .answers .numbered .first));
+        same = offer-leaves i s q answer;
       }
 
 -- ---- deliver
 module _ (i q out body answer : List ℕ) where
-  abbrev DeliverSame : DeliverLeft → Type 0
-  DeliverSame c = ¬ (c .status ≡ 0) → (c .image ≡ i) × (c .queue ≡ q) × (c .out ≡ out) × (c .body ≡ body) × (c .answer ≡ answer)
-
   deliver-number : (c : AfterDeliver) (a : DeliverAnswer) → deliverTold i answer c a .status ≡ deliverNumber a
   deliver-number c (deliverAnswer.Refused k) = refl
   deliver-number c (deliverAnswer.Nothing tried) = refl
   deliver-number c (deliverAnswer.Frame d) = refl
-
-  deliver-same : (c : AfterDeliver) (a : DeliverAnswer) → (¬ (deliverNumber a ≡ 0) → (c .queue ≡ q) × (c .out ≡ out) × (c .body ≡ body))
-      → DeliverSame (deliverTold i answer c a)
-  deliver-same c (deliverAnswer.Refused k) f h = (refl, f h .0, f h .1, f h .2, refl)
-  deliver-same c (deliverAnswer.Nothing tried) f h = absurd (h refl)
-  deliver-same c (deliverAnswer.Frame d) f h = absurd (h refl)
 
   pub host-deliver-says : DeliverSays (recordIn i) q out body (deliverCall (recordIn i) q out body)
       → HostDeliverSays i q out body answer (exportedDeliver i q out body answer)
@@ -184,8 +138,6 @@ module _ (i q out body answer : List ℕ) where
         numbered =
             by-number (hostDeliverChecks i q out body answer) (exportedDeliver i q out body answer .status) (omega arith)
             (status-of (λ (l : DeliverLeft). l .status) (badImage i) short (brokenRecord r) t₃ (firstMet (deliverRest r q))
-            (sound-record i) refl refl (deliver-number c (c .result .answer) ∙ says .answers .numbered .first));
-        same =
-            holds-of DeliverSame (badImage i) short (λ h. (refl, refl, refl, refl, refl)) (λ h. (refl, refl, refl, refl, refl))
-            (deliver-same c (c .result .answer) (λ h. (says .same h .1, says .same h .2, says .same h .3)));
+            (good-record i) refl refl (deliver-number c (c .result .answer) ∙ says .answers .numbered .first));
+        same = deliver-leaves i q out body answer;
       }
