@@ -9,7 +9,8 @@ use native.Mathlib.Omega.{arith}
 use lib.Dec.{T, eqb, ltb}
 use lib.ListN.{getElem?, length}
 use Rattle.wire.specs.Limits.{maxBody}
-use Rattle.causality.proofs.Frames.{cut-nothing, issued-frames, trim-bare}
+use Rattle.causality.proofs.Frames.{cut-nothing, issued-frames}
+use Rattle.protocol.proofs.Trim.{trim-bare}
 use Rattle.causality.proofs.Matches.{Agrees}
 use Rattle.causality.proofs.Offers.{queue-passes, whole-back}
 use Rattle.causality.proofs.Queues.{Bodies, frames-back, queue-length}

@@ -8,16 +8,19 @@ use Rattle.causality.proofs.Matches.{Matches}
 use Rattle.causality.proofs.Order.{carried, causal, distinct, kept, once}
 use Rattle.causality.proofs.Progress.{accepts, delivers-new, exists, held-agrees}
 use Rattle.causality.proofs.Refusals.{list-refusals}
+use Rattle.causality.proofs.Rights.{rights-for}
 use Rattle.causality.proofs.Runs.{run-matches, start-matches}
 use Rattle.causality.proofs.Steps.{forget}
 use Rattle.causality.specs.AcceptedOnce.{AcceptedOnce}
 use Rattle.causality.specs.Demand3.{BodiesOfBytes, Demand3, Demand3For, Earliest, Issue, Step, World, run, start}
 use Rattle.causality.specs.ListRefusals.{ListRefusals}
+use Rattle.causality.specs.Rights.{RightsKept}
 use Rattle.causality.specs.EachDestination.{EachDestination, EarliestThere, Progress}
 use Rattle.matrix.specs.Message.{InRange}
 use Rattle.protocol.proofs.Accepting.{run-once, start-once}
 use Rattle.protocol.proofs.Good.{Good}
 use Rattle.protocol.proofs.Runs.{run-good, run-length, start-good}
+use Rattle.protocol.proofs.Senders.{run-senders, start-senders}
 use Rattle.protocol.specs.World as messages
 use Rattle.protocol.proofs.Demand3 as proved
 use Rattle.protocol.specs.Demand3 as stated
@@ -82,6 +85,14 @@ acceptedOnce n cap inside steps bytes short =
     accepted-once n (w n cap inside steps bytes short) (b n cap inside steps bytes short) (m n cap inside steps bytes short)
     (run-once n (λ i. cap) (messages.start n (λ i. cap)) (l n cap inside steps bytes short) (good-start n cap inside steps bytes short)
     (start-once n (λ i. cap)))
+
+-- who may say what
+pub rightsKept : RightsKept
+rightsKept n cap inside steps bytes short =
+    rights-for n cap (w n cap inside steps bytes short) (b n cap inside steps bytes short) (g n cap inside steps bytes short) (few n cap inside steps bytes short)
+    (m n cap inside steps bytes short)
+    (run-senders n (λ i. cap) (messages.start n (λ i. cap)) (l n cap inside steps bytes short) (good-start n cap inside steps bytes short)
+    (start-senders n (λ i. cap)))
 
 -- its last part, for each destination
 pub each-destination : EachDestination

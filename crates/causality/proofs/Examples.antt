@@ -7,9 +7,10 @@ use mathlib.Core.Path.{_≡_, refl}
 use native.Mathlib.Omega.{arith}
 use lib.ListN.{drop, replicate}
 use Rattle.arrival.specs.View.{arrivalRefusal}
-use Rattle.causality.proofs.Demand3.{demand3}
+use Rattle.causality.proofs.Demand3.{demand3, rightsKept}
 use Rattle.causality.specs.Demand3.{Answer, BodiesOfBytes, DeliveredAt, Demand3For, Event, HappenedBefore, Issue, Step, World, chain, cutFor}
 use Rattle.causality.specs.Demand3.{delivered, delivers, issuedBy, message, offered, offers, run, sameNode, sends, sent, start, step}
+use Rattle.causality.specs.Rights.{RightsFor, SentBy}
 use Rattle.frame.specs.Entries.{entriesBytes, entriesFrom, entriesOf, entryAt, entryBytes, listed, matrixOf, placed}
 use Rattle.frame.specs.Frame.{decode, encode, front, headerOf}
 use Rattle.frame.specs.Frames.{framesOf}
@@ -29,6 +30,9 @@ use Rattle.node.specs.SetUp.{setUp}
 use Rattle.protocol.specs.Node.{atLimit}
 use Rattle.protocol.specs.Offer.{deliverable}
 use Rattle.protocol.specs.Trim.{trimFor}
+use Rattle.rights.specs.Ours.{ours}
+use Rattle.rights.specs.Rights.{camera, lacksRight, mover, panel}
+use Rattle.rights.specs.Topics.{group, motion}
 use Rattle.wire.proofs.Bytes.{small-bytes}
 use Rattle.wire.specs.Bytes.{le16, le32, u16At, u32At}
 use Rattle.wire.specs.Trailer.{checksum, countBack, hasTrailer, sealed, sumBack, total, trailer}
@@ -73,22 +77,23 @@ gets kind from number tried body bytes extras =
     delivered (deliver.Frame (record { kind = kind; from = from; number = number; tried = tried; body = body; bytes = bytes; extras = extras }))
 
 -- ---- the story: node 0, the cover, tells the archive, 2, "closing" and the camera, 1, "closed"; the camera reports to the archive
+-- each body begins with its topic: 1 is motion, 40 exposure
 abbrev closing : List ℕ
-closing = 99 ∷ 108 ∷ 111 ∷ 115 ∷ 105 ∷ 110 ∷ 103 ∷ []
+closing = 1 ∷ 99 ∷ 108 ∷ 111 ∷ 115 ∷ 105 ∷ 110 ∷ 103 ∷ []
 
 abbrev closed : List ℕ
-closed = 99 ∷ 108 ∷ 111 ∷ 115 ∷ 101 ∷ 100 ∷ []
+closed = 1 ∷ 99 ∷ 108 ∷ 111 ∷ 115 ∷ 101 ∷ 100 ∷ []
 
 abbrev report : List ℕ
-report = 114 ∷ 101 ∷ 112 ∷ 111 ∷ 114 ∷ 116 ∷ []
+report = 40 ∷ 114 ∷ 101 ∷ 112 ∷ 111 ∷ 114 ∷ 116 ∷ []
 
 unfoldable pub story : List Step
 story =
-    sends 0 2 closing out
-    ∷ sends 0 1 closed out
+    sends 0 2 mover closing out
+    ∷ sends 0 1 mover closed out
     ∷ offers 1 1
     ∷ delivers 1 out text
-    ∷ sends 1 2 report out
+    ∷ sends 1 2 camera report out
     ∷ offers 2 2
     ∷ delivers 2 out text
     ∷ offers 2 0
@@ -98,13 +103,13 @@ story =
 
 -- its frames: "closed" and the report carry that "closing" was sent to the archive
 abbrev closingFrame : List ℕ
-closingFrame = 1 ∷ 0 ∷ 2 ∷ 0 ∷ 7 ∷ 3 ∷ 3 ∷ 0 ∷ 99 ∷ 108 ∷ 111 ∷ 115 ∷ 105 ∷ 110 ∷ 103 ∷ 15 ∷ 0 ∷ 14 ∷ 3 ∷ []
+closingFrame = 1 ∷ 0 ∷ 2 ∷ 0 ∷ 8 ∷ 3 ∷ 3 ∷ 0 ∷ 1 ∷ 99 ∷ 108 ∷ 111 ∷ 115 ∷ 105 ∷ 110 ∷ 103 ∷ 16 ∷ 0 ∷ 17 ∷ 3 ∷ []
 
 abbrev closedFrame : List ℕ
-closedFrame = 1 ∷ 0 ∷ 1 ∷ 1 ∷ 6 ∷ 3 ∷ 3 ∷ 0 ∷ 0 ∷ 2 ∷ 1 ∷ 0 ∷ 0 ∷ 0 ∷ 99 ∷ 108 ∷ 111 ∷ 115 ∷ 101 ∷ 100 ∷ 20 ∷ 0 ∷ 160 ∷ 2 ∷ []
+closedFrame = 1 ∷ 0 ∷ 1 ∷ 1 ∷ 7 ∷ 3 ∷ 3 ∷ 0 ∷ 0 ∷ 2 ∷ 1 ∷ 0 ∷ 0 ∷ 0 ∷ 1 ∷ 99 ∷ 108 ∷ 111 ∷ 115 ∷ 101 ∷ 100 ∷ 21 ∷ 0 ∷ 163 ∷ 2 ∷ []
 
 abbrev reportFrame : List ℕ
-reportFrame = 1 ∷ 1 ∷ 2 ∷ 1 ∷ 6 ∷ 3 ∷ 3 ∷ 0 ∷ 0 ∷ 2 ∷ 1 ∷ 0 ∷ 0 ∷ 0 ∷ 114 ∷ 101 ∷ 112 ∷ 111 ∷ 114 ∷ 116 ∷ 20 ∷ 0 ∷ 196 ∷ 2 ∷ []
+reportFrame = 1 ∷ 1 ∷ 2 ∷ 1 ∷ 7 ∷ 3 ∷ 3 ∷ 0 ∷ 0 ∷ 2 ∷ 1 ∷ 0 ∷ 0 ∷ 0 ∷ 40 ∷ 114 ∷ 101 ∷ 112 ∷ 111 ∷ 114 ∷ 116 ∷ 21 ∷ 0 ∷ 238 ∷ 2 ∷ []
 
 abbrev storyFrames : List Issue
 storyFrames = issuedBy 0 closingFrame ∷ issuedBy 1 closedFrame ∷ issuedBy 4 reportFrame ∷ []
@@ -114,7 +119,7 @@ unfolding story step setUp inRange cutFor sendCall offerCall deliverCall brokenR
     flat entry atLimit protocolSend.send protocolOffer.offer protocolDeliver.deliver deliverable trimFor fullest clear only merge framesOf encode sealed front
     headerBytes headerOf header ownLength entriesBytes entryBytes entriesOf listed placed entriesFrom entryAt matrixOf le16 le32 u16At u32At bytes.put trailer
     trailers.counted checksum total decode wrongQueue sameBytes heldRefused someRefused someAlike arrivalRefusal frameRefusal wrongTrailer hasTrailer countBack
-    sumBack wrongKind wrongAddress wrongContent wrongBody wrongEntries eachOk entryOk precedes rising risingAfter zeros padded slots frameIn heldFrames without
+    sumBack wrongKind wrongAddress wrongContent wrongBody wrongEntries eachOk entryOk precedes rising risingAfter zeros padded slots frameIn heldFrames without ours lacksRight group
 story-frames = refl
 
 -- a step that was made at node i
@@ -124,16 +129,16 @@ made i s a = record { node = i; step = s; answer = a }
 -- its steps: the report is offered first, waits, and is delivered after "closing"
 abbrev storyEvents : List Event
 storyEvents =
-    made 0 (sends 0 2 closing out) (wrote 19)
-    ∷ made 0 (sends 0 1 closed out) (wrote 24)
+    made 0 (sends 0 2 mover closing out) (wrote 20)
+    ∷ made 0 (sends 0 1 mover closed out) (wrote 25)
     ∷ made 1 (offers 1 1) (holds 1 true)
-    ∷ made 1 (delivers 1 out text) (gets 1 0 1 1 6 0 0)
-    ∷ made 1 (sends 1 2 report out) (wrote 24)
+    ∷ made 1 (delivers 1 out text) (gets 1 0 1 1 7 0 0)
+    ∷ made 1 (sends 1 2 camera report out) (wrote 25)
     ∷ made 2 (offers 2 2) (holds 1 false)
     ∷ made 2 (delivers 2 out text) (waits 1)
     ∷ made 2 (offers 2 0) (holds 2 true)
-    ∷ made 2 (delivers 2 out text) (gets 1 0 1 2 7 0 0)
-    ∷ made 2 (delivers 2 out text) (gets 1 1 1 1 6 0 0)
+    ∷ made 2 (delivers 2 out text) (gets 1 0 1 2 8 0 0)
+    ∷ made 2 (delivers 2 out text) (gets 1 1 1 1 7 0 0)
     ∷ []
 
 pub story-events : after story .history ≡ storyEvents
@@ -141,18 +146,18 @@ unfolding story step setUp inRange cutFor sendCall offerCall deliverCall brokenR
     flat entry atLimit protocolSend.send protocolOffer.offer protocolDeliver.deliver deliverable trimFor fullest clear only merge framesOf encode sealed front
     headerBytes headerOf header ownLength entriesBytes entryBytes entriesOf listed placed entriesFrom entryAt matrixOf le16 le32 u16At u32At bytes.put trailer
     trailers.counted checksum total decode wrongQueue sameBytes heldRefused someRefused someAlike arrivalRefusal frameRefusal wrongTrailer hasTrailer countBack
-    sumBack wrongKind wrongAddress wrongContent wrongBody wrongEntries eachOk entryOk precedes rising risingAfter zeros padded slots frameIn heldFrames without
+    sumBack wrongKind wrongAddress wrongContent wrongBody wrongEntries eachOk entryOk precedes rising risingAfter zeros padded slots frameIn heldFrames without ours lacksRight group
 story-events = refl
 
 -- the send of "closing" happened before the send of the report, by way of "closed"
 before-report : HappenedBefore storyFrames storyEvents 0 4
 unfolding header decode entriesFrom entryAt u32At matrixOf
 before-report =
-    chain 0 1 4 (sameNode 0 1 (made 0 (sends 0 2 closing out) (wrote 19)) (made 0 (sends 0 1 closed out) (wrote 24)) (omega arith) refl refl refl refl refl)
+    chain 0 1 4 (sameNode 0 1 (made 0 (sends 0 2 mover closing out) (wrote 20)) (made 0 (sends 0 1 mover closed out) (wrote 25)) (omega arith) refl refl refl refl refl)
     (chain 1 3 4
     (message 1 3 1 (issuedBy 1 closedFrame) refl refl refl
-    (record { event = made 1 (delivers 1 out text) (gets 1 0 1 1 6 0 0); at = refl; here = refl; names = refl }))
-    (sameNode 3 4 (made 1 (delivers 1 out text) (gets 1 0 1 1 6 0 0)) (made 1 (sends 1 2 report out) (wrote 24)) (omega arith) refl refl refl refl refl))
+    (record { event = made 1 (delivers 1 out text) (gets 1 0 1 1 7 0 0); at = refl; here = refl; names = refl }))
+    (sameNode 3 4 (made 1 (delivers 1 out text) (gets 1 0 1 1 7 0 0)) (made 1 (sends 1 2 camera report out) (wrote 25)) (omega arith) refl refl refl refl refl))
 
 pub story-before : HappenedBefore (after story .log) (after story .history) 0 4
 story-before = rw (story-frames, story-events) before-report
@@ -174,17 +179,26 @@ pub story-order : (t : ℕ) × (t < 9) × DeliveredAt (after story .history) t c
 unfolding header decode entriesFrom entryAt u32At matrixOf
 story-order =
     story-demand3 .causal 0 2 9 (issuedBy 0 closingFrame) (issuedBy 4 reportFrame) (rw story-frames refl) (rw story-frames refl) refl refl refl story-before
-    (record { event = made 2 (delivers 2 out text) (gets 1 1 1 1 6 0 0); at = rw story-events refl; here = refl; names = refl })
+    (record { event = made 2 (delivers 2 out text) (gets 1 1 1 1 7 0 0); at = rw story-events refl; here = refl; names = refl })
+
+-- who may say what: "closing" is of the motion group, so whoever sent it did so as a mover
+pub story-rights : RightsFor 3 (after story)
+unfolding story
+story-rights = rightsKept 3 3 range story story-bodies (omega arith)
+
+pub story-mover : (class : ℕ) → SentBy (after story) (issuedBy 0 closingFrame) class → class ≡ mover
+unfolding header decode entriesFrom entryAt u32At matrixOf group
+story-mover class sentBy = story-rights .motion 0 class (issuedBy 0 closingFrame) (rw story-frames refl) refl sentBy refl
 
 -- ---- an extra frame: after its second delivery four entries stand at node 0, a tie, and an extra frame goes to node 1, which delivers it
 unfoldable pub tie : List Step
 tie =
-    sends 0 1 [] out
-    ∷ sends 0 2 [] out
-    ∷ sends 1 2 [] out
-    ∷ sends 1 0 [] out
-    ∷ sends 2 1 [] out
-    ∷ sends 2 0 [] out
+    sends 0 1 mover [] out
+    ∷ sends 0 2 mover [] out
+    ∷ sends 1 2 mover [] out
+    ∷ sends 1 0 mover [] out
+    ∷ sends 2 1 mover [] out
+    ∷ sends 2 0 mover [] out
     ∷ offers 0 3
     ∷ delivers 0 out text
     ∷ offers 0 5
@@ -206,7 +220,7 @@ unfolding tie step setUp inRange cutFor sendCall offerCall deliverCall brokenRec
     flat entry atLimit protocolSend.send protocolOffer.offer protocolDeliver.deliver deliverable trimFor fullest clear only merge framesOf encode sealed front
     headerBytes headerOf header ownLength entriesBytes entryBytes entriesOf listed placed entriesFrom entryAt matrixOf le16 le32 u16At u32At bytes.put trailer
     trailers.counted checksum total decode wrongQueue sameBytes heldRefused someRefused someAlike arrivalRefusal frameRefusal wrongTrailer hasTrailer countBack
-    sumBack wrongKind wrongAddress wrongContent wrongBody wrongEntries eachOk entryOk precedes rising risingAfter zeros padded slots frameIn heldFrames without
+    sumBack wrongKind wrongAddress wrongContent wrongBody wrongEntries eachOk entryOk precedes rising risingAfter zeros padded slots frameIn heldFrames without ours lacksRight group
 tie-answers = refl
 
 -- it carries (0,1) = 1 and (2,1) = 1
@@ -215,16 +229,16 @@ unfolding tie step setUp inRange cutFor sendCall offerCall deliverCall brokenRec
     flat entry atLimit protocolSend.send protocolOffer.offer protocolDeliver.deliver deliverable trimFor fullest clear only merge framesOf encode sealed front
     headerBytes headerOf header ownLength entriesBytes entryBytes entriesOf listed placed entriesFrom entryAt matrixOf le16 le32 u16At u32At bytes.put trailer
     trailers.counted checksum total decode wrongQueue sameBytes heldRefused someRefused someAlike arrivalRefusal frameRefusal wrongTrailer hasTrailer countBack
-    sumBack wrongKind wrongAddress wrongContent wrongBody wrongEntries eachOk entryOk precedes rising risingAfter zeros padded slots frameIn heldFrames without
+    sumBack wrongKind wrongAddress wrongContent wrongBody wrongEntries eachOk entryOk precedes rising risingAfter zeros padded slots frameIn heldFrames without ours lacksRight group
 tie-extra = refl
 
 -- ---- no common order is imposed: of two unrelated senders, 0 and 1, node 2 delivers 0 first, and node 3 delivers 1 first
 unfoldable pub opposite : List Step
 opposite =
-    sends 0 2 [] out
-    ∷ sends 0 3 [] out
-    ∷ sends 1 2 [] out
-    ∷ sends 1 3 [] out
+    sends 0 2 mover [] out
+    ∷ sends 0 3 mover [] out
+    ∷ sends 1 2 mover [] out
+    ∷ sends 1 3 mover [] out
     ∷ offers 2 0
     ∷ delivers 2 out text
     ∷ offers 2 2
@@ -244,29 +258,32 @@ unfolding opposite step setUp inRange cutFor sendCall offerCall deliverCall brok
     sealed front headerBytes headerOf header ownLength entriesBytes entryBytes entriesOf listed placed entriesFrom entryAt matrixOf le16 le32 u16At u32At
     bytes.put trailer trailers.counted checksum total decode wrongQueue sameBytes heldRefused someRefused someAlike arrivalRefusal frameRefusal wrongTrailer
     hasTrailer countBack sumBack wrongKind wrongAddress wrongContent wrongBody wrongEntries eachOk entryOk precedes rising risingAfter zeros padded slots
-    frameIn heldFrames without
+    frameIn heldFrames without ours lacksRight group
 opposite-answers = refl
 
--- ---- calls that are refused, and what is no step: a short output, a body of 65 bytes, a frame at a wrong node, held already,
--- delivered before; a node that is not there, an issue not made
+-- ---- calls that are refused, and what is no step: a short output, a body of 65 bytes and a destination that is me, both by a class without the right;
+-- a class that is none, a panel's motion, a mover's exposure; a frame at a wrong node, held already, delivered before; a node that is not there, an issue not made
 unfoldable pub refusals : List Step
 refusals =
-    sends 0 1 [] (replicate 2047 0)
-    ∷ sends 0 1 (replicate 65 0) out
-    ∷ sends 0 0 [] out
-    ∷ sends 0 1 [] out
+    sends 0 1 mover [] (replicate 2047 0)
+    ∷ sends 0 1 panel (replicate 65 0) out
+    ∷ sends 0 0 4 [] out
+    ∷ sends 0 1 4 [] out
+    ∷ sends 0 1 panel (31 ∷ []) out
+    ∷ sends 0 1 mover (32 ∷ []) out
+    ∷ sends 0 1 mover [] out
     ∷ offers 2 0
     ∷ offers 1 0
     ∷ offers 1 0
     ∷ delivers 1 out []
     ∷ delivers 1 out text
     ∷ offers 1 0
-    ∷ sends 3 1 [] out
+    ∷ sends 3 1 mover [] out
     ∷ offers 1 1
     ∷ []
 
 refusals-answers : answers refusals
-    ≡ sent (send.Refused 3) ∷ sent (send.Refused 7) ∷ sent (send.Refused 6) ∷ wrote 12
+    ≡ sent (send.Refused 3) ∷ sent (send.Refused 7) ∷ sent (send.Refused 6) ∷ sent (send.Refused 21) ∷ sent (send.Refused 21) ∷ sent (send.Refused 21) ∷ wrote 12
     ∷ offered (offer.Refused 12) ∷ holds 1 true ∷ offered (offer.Refused 15) ∷ delivered (deliver.Refused 3)
     ∷ gets 1 0 1 1 0 0 0 ∷ offered (offer.Refused 14) ∷ []
 unfolding refusals step setUp inRange cutFor sendCall offerCall deliverCall brokenRecord brokenRules zeroDiagonal zeroColumn withinLimit zeroFrom count
@@ -274,5 +291,5 @@ unfolding refusals step setUp inRange cutFor sendCall offerCall deliverCall brok
     sealed front headerBytes headerOf header ownLength entriesBytes entryBytes entriesOf listed placed entriesFrom entryAt matrixOf le16 le32 u16At u32At
     bytes.put trailer trailers.counted checksum total decode wrongQueue sameBytes heldRefused someRefused someAlike arrivalRefusal frameRefusal wrongTrailer
     hasTrailer countBack sumBack wrongKind wrongAddress wrongContent wrongBody wrongEntries eachOk entryOk precedes rising risingAfter zeros padded slots
-    frameIn heldFrames without
+    frameIn heldFrames without ours lacksRight group
 refusals-answers = refl

@@ -1,11 +1,9 @@
 -- Frames end to end, as a step issues them: cut by their own e and b they are those frames, and a step's frames fit its output. Assumes nothing.
 use Prim.Native.Nat.{_≤_, suc, zero, ℕ}
 use mathlib.Core.List.{List, [], _++_, _∷_, map}
-use mathlib.Core.Option.{some}
 use mathlib.Core.Path.{_∙_, _≡_, ap, ap₂, refl, sym}
 use native.Mathlib.Omega.{arith}
-use lib.Dec.{leb}
-use lib.ListN.{getElem?, length, length-append, take}
+use lib.ListN.{length, length-append, take}
 use lib.Seq.{drop-at, take-at}
 use Rattle.holdback.proofs.Slots.{header-append, own-least}
 use Rattle.causality.specs.Demand3.{cutFor, framesIn}
@@ -14,13 +12,9 @@ use Rattle.frame.proofs.Written.{header-encode, length-encode}
 use Rattle.frame.specs.Frame.{encode, headerOf}
 use Rattle.frame.specs.Frames.{framesOf}
 use Rattle.frame.specs.Header.{header, ownLength}
-use Rattle.matrix.specs.Matrix.{Matrix, clear, count, fullest}
-use Rattle.matrix.specs.Message.{Message, extraMessage}
+use Rattle.matrix.specs.Message.{Message}
 use Rattle.node.specs.Sizes.{outSize}
-use Rattle.protocol.proofs.Lists.{at-none}
-use Rattle.protocol.specs.Trim.{Trimmed, issuing, trimFor, untouched}
 use Rattle.wire.proofs.Bytes.{put-back}
-use Rattle.wire.proofs.Tests.{cond-elim}
 use Rattle.wire.specs.Limits.{maxFrame}
 use Rattle.wire.specs.Bytes.{put as write}
 
@@ -71,20 +65,3 @@ issued-frames out l h = ap framesIn (put-back out 0 (framesOf l) (omega arith)) 
 pub send-room : (f : Message) → length (encode f) ≤ maxFrame → (l : List Message) → length (framesOf l) ≤ 1008 → length (framesOf (f ∷ l)) ≤ outSize
 unfolding framesOf
 send-room f h l r = omega (arith, length-append (encode f) (framesOf l))
-
--- an extra message has no body
-pub trim-bare : (k me n cap : ℕ) (m : Matrix) (p : ℕ) (f : Message) → getElem? ((trimFor k me n cap m) .extras) p ≡ some f → f .body ≡ []
-unfolding trimFor
-trim-bare zero me n cap m p f e = absurd (at-none p f e)
-trim-bare (suc k) me n cap m p f e =
-    cond-elim (λ (t : Trimmed). getElem? (t .extras) p ≡ some f → f .body ≡ []) (leb (count m) cap) (untouched m)
-    (issuing (extraMessage me (fullest m) n cap m) (trimFor k me n cap (clear me (fullest m) m)))
-    (λ _ e. absurd (at-none p f e)) (λ _. go p (λ q. trim-bare k me n cap (clear me (fullest m) m) q f)) e
-  where
-    rest : Trimmed
-    rest = trimFor k me n cap (clear me (fullest m) m)
-
-    go : (p : ℕ) → ((q : ℕ) → getElem? (rest .extras) q ≡ some f → f .body ≡ [])
-        → getElem? (extraMessage me (fullest m) n cap m ∷ rest .extras) p ≡ some f → f .body ≡ []
-    go zero ih e = let z : extraMessage me (fullest m) n cap m ≡ f = cc in ap (λ (x : Message). x .body) (sym z)
-    go (suc p) ih e = ih p e

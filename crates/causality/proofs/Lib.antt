@@ -14,5 +14,6 @@ pub mod Order
 pub mod Progress
 pub mod Refusals
 pub mod Accepted
+pub mod Rights
 pub mod Demand3
 pub mod Examples

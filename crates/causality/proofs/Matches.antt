@@ -1,7 +1,7 @@
 -- A world of messages and a world of bytes match: records and queues are those of the nodes,
 -- the log is of the messages' frames, and the histories say the same. Assumes nothing.
 use Prim.Native.Nat.{_+_, _<_, suc, zero, ℕ}
-use mathlib.Core.Bool.{cond}
+use mathlib.Core.Bool.{cond, false, true}
 use mathlib.Core.List.{List, [], _++_, _∷_, map, map-append, map-map}
 use mathlib.Core.Logic.{_⊎_, inl, inr}
 use mathlib.Core.Option.{Option, none, some}
@@ -11,7 +11,7 @@ use lib.Dec.{eqb}
 use lib.ListN.{getElem?, length}
 use Rattle.causality.proofs.Queues.{Bodies}
 use Rattle.causality.specs.Demand3.{Answer, Event, Issue, Label, Step, World, accepted, afterCall, answersAt}
-use Rattle.causality.specs.Demand3.{deliveries, delivery, issuedBy, issuedFrames, offers, offersAccepted}
+use Rattle.causality.specs.Demand3.{deliveries, delivery, issuedBy, issuedFrames, offers, offersAccepted, sends}
 use Rattle.causality.specs.ListRefusals.{Expected}
 use Rattle.frame.specs.Frame.{encode}
 use Rattle.frame.specs.Header.{kindByte}
@@ -21,6 +21,8 @@ use Rattle.causality.proofs.Records.{recordOf}
 use Rattle.protocol.proofs.Below.{update-other, update-same}
 use Rattle.protocol.proofs.Lists.{at-append, at-none, map-at}
 use Rattle.protocol.specs.Node.{update, Node as MessageNode}
+use Rattle.rights.specs.Ours.{ours}
+use Rattle.rights.specs.Rights.{lacksRight}
 use Rattle.wire.specs.Bytes.{AllBytes}
 use Rattle.protocol.specs.World as messages
 use Rattle.protocol.specs.Answer as protocol
@@ -52,11 +54,23 @@ pub record SameStep (s : messages.Step) (t : Step) : Type 0 where
   pub there : (j p : ℕ) → s ≡ messages.offers j p → t ≡ offers j p
   pub back : (j p : ℕ) → t ≡ offers j p → s ≡ messages.offers j p
 
+-- a send from i to `to` of this body, by a class that has the right to it
+pub record SentBy (i to : ℕ) (body : List ℕ) (t : Step) : Type 0 where
+  pub class : ℕ
+  pub out : List ℕ
+  pub same : t ≡ sends i to class body out
+  pub allowed : lacksRight ours class body ≡ false
+
+-- where the step s, answered with a, is an accepted send of a message, the step t is the send of its body
+abbrev pub SameSend : messages.Step → protocol.Answer → Step → Type 0
+SameSend s a t = (i to : ℕ) (body : List ℕ) → s ≡ messages.sends i to body → protocol.accepted a ≡ true → SentBy i to body t
+
 -- events that say the same
 pub record SameEvent (e : messages.Event) (f : Event) : Type 0 where
   pub node : f .node ≡ e .node
   pub step : SameStep (e .step) (f .step)
   pub answer : SameAnswer (e .answer) (f .answer)
+  pub sent : SameSend (e .step) (e .answer) (f .step)
 
 -- histories that say the same, event by event
 pub data SameHistory : List messages.Event → List Event → Type 0 where
@@ -111,7 +125,7 @@ pub record Agrees (o : protocol.Outcome) (r : Record) (q : List ℕ) (a : Answer
 
 -- a call that agrees keeps the match
 module _ (n : ℕ) (w : messages.World) (b : World) (m : Matches n w b) (i : ℕ) (s : messages.Step) (t : Step) (same : SameStep s t)
-    (o : protocol.Outcome) (r : Record) (q : List ℕ) (a : Answer) (out : List ℕ) (g : Agrees o r q a out) where
+    (o : protocol.Outcome) (sent : SameSend s (o .answer) t) (r : Record) (q : List ℕ) (a : Answer) (out : List ℕ) (g : Agrees o r q a out) where
   -- the node of one function and of the other, where one value is put
   update-both : {A B : Type 0} (f : A → B) (u : ℕ → A) (v : ℕ → B) (x : A) (y : B) → y ≡ f x → (k : ℕ) → v k ≡ f (u k) → update v i y k ≡ f (update u i x k)
   update-both f u v x y e k h = go (ℕ-discrete k i)
@@ -140,7 +154,7 @@ module _ (n : ℕ) (w : messages.World) (b : World) (m : Matches n w b) (i : ℕ
     queues = λ k h. update-both (λ (d : MessageNode). laid (map encode (d .held))) (w .nodes) (b .queues) (o .node) q (g .queue) k (m .queues k h);
     log = same-log;
     history = same-snoc (w .history) (b .history) (record { node = i; step = s; answer = o .answer }) (record { node = i; step = t; answer = a }) (m .history)
-        (record { node = refl; step = same; answer = g .answer });
+        (record { node = refl; step = same; answer = g .answer; sent = sent });
     bodies = λ p f at. body p f (at-append (w .log) (map (messages.issuedBy (length (w .history))) (protocol.issued (o .answer))) p f at);
   }
     where

@@ -1,6 +1,7 @@
 -- What matching worlds say of frames and messages: labels, deliveries, happened before, held and how many are. Assumes nothing.
 use Prim.Native.Nat.{_-_, ℕ}
 use mathlib.Core.List.{List}
+use mathlib.Core.Logic.{_⊎_, inl, inr}
 use mathlib.Core.Option.{Option, none, some}
 use mathlib.Core.Path.{_∙_, _≡_, ap, ap₂, refl, subst, sym}
 use native.Mathlib.Omega.{arith}
@@ -8,6 +9,7 @@ use lib.ListN.{getElem?}
 use Rattle.causality.proofs.Matches.{Matches, encodeIssue, labelOf, named, same-answers, same-back, same-there}
 use Rattle.causality.specs.Demand3.{DeliveredAt, Earliest, HappenedBefore, Held, Issue, IssueAt, Label, User, World, chain}
 use Rattle.causality.specs.Demand3.{deliveries, heldAt, label, message, offers, offersAccepted, sameNode, Delivered}
+use Rattle.causality.specs.Rights.{Extra}
 use Rattle.frame.proofs.EntryLists.{length-entriesOf}
 use Rattle.frame.proofs.Written.{decode-encode, header-encode}
 use Rattle.frame.specs.Frame.{decode, encode, headerOf}
@@ -47,6 +49,17 @@ same-kind extra extra e = refl
 
 pub user-kind : (m : Message) → User (encode m) → m .kind ≡ user
 user-kind m e = same-kind (m .kind) user (sym (kind-encode m) ∙ e)
+
+-- a frame is a user's or extra
+pub either-kind : (m : Message) → User (encode m) ⊎ Extra (encode m)
+either-kind m = go (m .kind) refl
+  where
+    go : (k : Kind) → m .kind ≡ k → User (encode m) ⊎ Extra (encode m)
+    go user e = inl (kind-encode m ∙ ap kindByte e)
+    go extra e = inr (kind-encode m ∙ ap kindByte e)
+
+pub extra-kind : (m : Message) → Extra (encode m) → m .kind ≡ extra
+extra-kind m e = same-kind (m .kind) extra (sym (kind-encode m) ∙ e)
 
 -- a frame's number and label
 pub number-encode : (m : Message) → Sound m → number (decode (encode m)) ≡ number m

@@ -34,7 +34,7 @@ clear-of (j ∷ l) c k (inr h) i = clear-of l (c .1) k h i
 -- nor is any that a call may be refused with, or 0
 possible-clear : (a : Answer) → Clear (0 ∷ possible a)
 unfolding among
-possible-clear (sent a) = (tt, (tt, (tt, (tt, tt))))
+possible-clear (sent a) = (tt, (tt, (tt, (tt, (tt, tt)))))
 possible-clear (offered a) = (tt, (tt, (tt, (tt, (tt, tt)))))
 possible-clear (delivered a) = (tt, (tt, tt))
 

@@ -10,7 +10,8 @@ use lib.ListN.{getElem?, length}
 use Rattle.wire.specs.Limits.{maxBody}
 use Rattle.causality.proofs.Matches.{Matches, empty, encodeIssue}
 use Rattle.causality.proofs.Records.{in-range, recordOf}
-use Rattle.causality.proofs.Steps.{deliver-matches, deliver-matches-short, forget, lentLess, offer-matches, send-matches, send-matches-short}
+use Rattle.causality.proofs.Sends.{barred}
+use Rattle.causality.proofs.Steps.{deliver-matches, deliver-matches-short, forget, lentLess, offer-matches, send-matches, send-matches-barred}
 use Rattle.causality.specs.Demand3.{BodiesOfBytes, Issue, Step, World, deliverAt, delivers, offerIssue, offers, run, sendAt, sends, start, step}
 use Rattle.holdback.proofs.Slots.{zeros-laid}
 use Rattle.matrix.specs.Array.{flat}
@@ -39,20 +40,21 @@ both n false x y u v f h = h
 
 -- a step keeps the match
 module _ (n cap : ℕ) (w : messages.World) (b : World) (g : Good n (λ i. cap) w) (few : length (w .history) < 1000000000) (m : Matches n w b) where
-  send-step : (i to : ℕ) (body out : List ℕ) → AllBytes body → Matches n (messages.step n w (forget (sends i to body out))) (step n b (sends i to body out))
+  send-step : (i to class : ℕ) (body out : List ℕ) → AllBytes body
+      → Matches n (messages.step n w (forget (sends i to class body out))) (step n b (sends i to class body out))
   unfolding messages.step step
-  send-step i to body out bytes =
-      cond-elim (λ (x : messages.Step). Matches n (messages.step n w x) new) (ltb (length out) outSize) (messages.sends i i []) (messages.sends i to body)
+  send-step i to class body out bytes =
+      cond-elim (λ (x : messages.Step). Matches n (messages.step n w x) new) (barred class body out) (messages.sends i i []) (messages.sends i to body)
       (λ s. both n (ltb i n) (messages.afterStep w i (messages.sends i i []) (send (w .nodes i) i [])) w after b
-      (λ t. send-matches-short n cap w b g few m i (ltb→lt i n t) to body out (ltb→lt (length out) outSize s)) m)
+      (λ t. send-matches-barred n cap w b g few m i (ltb→lt i n t) to class body out s) m)
       (λ s. both n (ltb i n) (messages.afterStep w i (messages.sends i to body) (send (w .nodes i) to body)) w after b
-      (λ t. send-matches n cap w b g few m i (ltb→lt i n t) to body out bytes (nltb→le (length out) outSize s)) m)
+      (λ t. send-matches n cap w b g few m i (ltb→lt i n t) to class body out bytes s) m)
     where
       after : World
-      after = sendAt b i (sends i to body out) (sendCall (b .records i) to body out)
+      after = sendAt b i (sends i to class body out) (sendCall (b .records i) to class body out)
 
       new : World
-      new = cond (ltb i n) (sendAt b i (sends i to body out) (sendCall (b .records i) to body out)) b
+      new = cond (ltb i n) (sendAt b i (sends i to class body out) (sendCall (b .records i) to class body out)) b
 
   offer-step : (i p : ℕ) → Matches n (messages.step n w (forget (offers i p))) (step n b (offers i p))
   unfolding messages.step step
@@ -90,10 +92,10 @@ pub run-matches : (n cap : ℕ) (l : List Step) → BodiesOfBytes l → (w : mes
     → length (w .history) + length l < 1000000000 → Matches n w b
     → Matches n (messages.run n w (map forget l)) (run n b l)
 run-matches n cap [] bytes w b g few m = m
-run-matches n cap (sends i to body out ∷ l) bytes w b g few m =
-    run-matches n cap l (bytes .1) (messages.step n w (forget (sends i to body out))) (step n b (sends i to body out))
-    (step-good n (λ i. cap) w (forget (sends i to body out)) g)
-    (omega (arith, run-length n w (forget (sends i to body out) ∷ []))) (send-step n cap w b g (omega arith) m i to body out (bytes .0))
+run-matches n cap (sends i to class body out ∷ l) bytes w b g few m =
+    run-matches n cap l (bytes .1) (messages.step n w (forget (sends i to class body out))) (step n b (sends i to class body out))
+    (step-good n (λ i. cap) w (forget (sends i to class body out)) g)
+    (omega (arith, run-length n w (forget (sends i to class body out) ∷ []))) (send-step n cap w b g (omega arith) m i to class body out (bytes .0))
 run-matches n cap (offers i p ∷ l) bytes w b g few m =
     run-matches n cap l bytes (messages.step n w (messages.offers i p)) (step n b (offers i p)) (step-good n (λ i. cap) w (messages.offers i p) g)
     (omega (arith, run-length n w (messages.offers i p ∷ []))) (offer-step n cap w b g (omega arith) m i p)

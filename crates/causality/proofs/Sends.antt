@@ -1,14 +1,14 @@
--- A send on record and bytes leaves what the send on messages leaves; with too short an output it is refused. Assumes nothing.
+-- A send on record and bytes leaves what the send on messages leaves; with too short an output, or by a class without the right, it is refused. Assumes nothing.
 use Prim.Native.Nat.{_<_, _≤_, suc, zero, ℕ}
-use mathlib.Core.Bool.{_||_, cond, not}
+use mathlib.Core.Bool.{Bool, _||_, cond, false, not}
 use mathlib.Core.List.{List, [], _∷_, map}
 use mathlib.Core.Logic.{_⊎_, inl, inr}
 use mathlib.Core.Option.{some}
 use mathlib.Core.Path.{_∙_, _≡_, ap, refl, subst, sym}
 use native.Mathlib.Omega.{arith}
-use lib.Dec.{T, eqb, ltb, lt→ltb, nltb→le}
+use lib.Dec.{T, T-not, eqb, ltb, nltb→le}
 use lib.ListN.{getElem?, length}
-use Rattle.causality.proofs.Frames.{issued-frames, send-room, trim-bare}
+use Rattle.causality.proofs.Frames.{issued-frames, send-room}
 use Rattle.causality.proofs.Matches.{Agrees}
 use Rattle.causality.proofs.Queues.{Bodies}
 use Rattle.causality.proofs.Records.{node-back, record-kept, recordOf}
@@ -22,23 +22,30 @@ use Rattle.matrix.proofs.Bounds.{count-121}
 use Rattle.matrix.specs.Matrix.{clear}
 use Rattle.matrix.specs.Message.{Message}
 use Rattle.node.specs.Answers.{AfterSend}
-use Rattle.node.specs.Calls.{acceptSend, refuseSend, sendCall, refusal as refusalOf}
+use Rattle.node.specs.Calls.{acceptSend, permitSend, refuseSend, sendCall, refusal as refusalOf}
 use Rattle.node.specs.Sizes.{outSize}
 use Rattle.node.specs.Record.{brokenRecord, nodeOf}
 use Rattle.protocol.proofs.Bounds.{below-limit}
 use Rattle.protocol.proofs.Good.{Good}
 use Rattle.protocol.proofs.Grown.{nodeAt}
+use Rattle.protocol.proofs.Trim.{trim-bare}
 use Rattle.protocol.specs.Node.{atLimit, Node as MessageNode}
 use Rattle.protocol.specs.Send.{longBody, send, sending, sentMatrix, sentMessage}
+use Rattle.rights.specs.Ours.{ours}
+use Rattle.rights.specs.Rights.{lacksRight}
 use Rattle.wire.proofs.Bytes.{small-bytes}
 use Rattle.trim.proofs.Bounds.{trim-bytes}
-use Rattle.wire.proofs.Tests.{cond-no, cond-yes, decide, is-false, le→nltb}
+use Rattle.wire.proofs.Tests.{cond-no, cond-yes, decide, is-false, le→nltb, or-T}
 use Rattle.wire.specs.Bytes.{AllBytes}
 use Rattle.wire.specs.Limits.{maxBody, maxFrame}
 use Rattle.protocol.specs.World as messages
 use Rattle.protocol.specs.Answer as protocol
 use Rattle.node.specs.declared.Node.{Node as Record}
 use Rattle.node.specs.declared.SendAnswer.the-variants as answer
+
+-- a send that the node refuses whatever the protocol says of it: it is lent too little, or its class lacks the right to its body
+abbrev pub barred : (class : ℕ) (body out : List ℕ) → Bool
+barred class body out = ltb (length out) outSize || lacksRight ours class body
 
 module _ (n cap : ℕ) (w : messages.World) (g : Good n (λ i. cap) w) (few : length (w .history) < 1000000000) (bodies : Bodies w) (i : ℕ) (hi : i < n) where
   -- the node, with any messages held
@@ -104,58 +111,93 @@ module _ (n cap : ℕ) (w : messages.World) (g : Good n (λ i. cap) w) (few : le
   abbrev Left : protocol.Outcome → AfterSend → Type 0
   Left o c = Agrees o (c .result .node) q (sent (c .result .answer)) (c .out)
 
-  -- the last step of the call
-  abbrev settle : List ℕ → protocol.Outcome → AfterSend
-  settle out o = cond (protocol.accepted (o .answer)) (acceptSend r out o) (refuseSend (refusalOf (o .answer)) r out)
-
   says-no : (k : ℕ) → T (not (eqb k 0)) → Expected (sent (answer.Refused k)) → SaysNo (sent (answer.Refused k))
   says-no k t x = record { refuses = is-false (eqb k 0) t; nothing = refl; holds = refl; gives = refl; counts = refl; expected = x }
 
-  settled : (to : ℕ) (body out : List ℕ) → AllBytes body → outSize ≤ length out → Case to body
-      → Left (send d to body) (settle out (send (with-held []) to body))
-  settled to body out bytes h (refuses k t x e) =
-      subst (λ (o : protocol.Outcome). Left o (settle out (send (with-held []) to body))) (sym (e (w .nodes i .held)))
-      (subst (λ (o : protocol.Outcome). Left (protocol.refuse k d) (settle out o)) (sym (e []))
-      (refused-agrees d k (sent (answer.Refused k)) out (says-no k t x)))
-  settled to body out bytes h (accepts short e) =
-      subst (λ (o : protocol.Outcome). Left o (settle out (send (with-held []) to body))) (sym (e (w .nodes i .held)))
-      (subst (λ (o : protocol.Outcome). Left (sending d to body) (settle out o)) (sym (e []))
-      (record {
-        node = refl;
-        queue = refl;
-        answer = record { acceptance = refl; names = refl; taken = refl; given = refl; expected = inl refl };
-        frames = issued-frames out issues (omega (
-          arith,
-          send-room (sentMessage d to body) (user-fits to body short) extras (trim-bytes 12 i n cap (clear i to (w .nodes i .matrix))),
-        ));
-        bodies = all-bytes;
-      }))
-    where
-      extras : List Message
-      extras = (sentMatrix d to) .extras
+  -- a send to `to`, by a class
+  module _ (to class : ℕ) (body out : List ℕ) where
+    -- what the call leaves, by what the protocol's send leaves
+    abbrev settle : protocol.Outcome → AfterSend
+    settle o = cond (protocol.accepted (o .answer)) (permitSend r class body out o) (refuseSend (refusalOf (o .answer)) r out)
 
-      issues : List Message
-      issues = sentMessage d to body ∷ (sentMatrix d to) .extras
+    abbrev behind : AfterSend
+    behind = cond (ltb (length out) outSize) (refuseSend 3 r out) (settle (send (nodeOf r []) to body))
 
-      all-bytes : (p : ℕ) (m : Message) → getElem? (sentMessage d to body ∷ (sentMatrix d to) .extras) p ≡ some m → AllBytes (m .body)
-      all-bytes zero m a = let z : sentMessage d to body ≡ m = cc in subst (λ (x : Message). AllBytes (x .body)) z bytes
-      all-bytes (suc p) m a = subst (λ (x : List ℕ). AllBytes x) (sym (trim-bare 12 i n cap (clear i to (w .nodes i .matrix)) p m a)) (small-bytes [] tt)
+    -- a call that is lent an output of at least 2,048 bytes, and one that is lent less
+    made : outSize ≤ length out → sendCall r to class body out ≡ settle (send (with-held []) to body)
+    unfolding sendCall
+    made h =
+        cond-no (brokenRecord r) (refuseSend 2 r out) behind (record-kept n cap w g few i hi)
+        ∙ cond-no (ltb (length out) outSize) (refuseSend 3 r out) (settle (send (nodeOf r []) to body)) (le→nltb (length out) outSize h)
+        ∙ ap (λ (e : MessageNode). settle (send e to body)) (node-back n cap w g few i hi [])
 
-  -- a send that is lent an output of at least 2,048 bytes
-  pub send-agrees : (to : ℕ) (body out : List ℕ) → AllBytes body → outSize ≤ length out → Left (send d to body) (sendCall r to body out)
-  unfolding sendCall
-  send-agrees to body out bytes h =
-      subst (Left (send d to body))
-      (sym (cond-no (brokenRecord r) (refuseSend 2 r out)
-      (cond (ltb (length out) outSize) (refuseSend 3 r out) (settle out (send (nodeOf r []) to body))) (record-kept n cap w g few i hi)
-      ∙ cond-no (ltb (length out) outSize) (refuseSend 3 r out) (settle out (send (nodeOf r []) to body)) (le→nltb (length out) outSize h)
-      ∙ ap (λ (e : MessageNode). settle out (send e to body)) (node-back n cap w g few i hi [])))
-      (settled to body out bytes h (case to body))
+    short : T (ltb (length out) outSize) → sendCall r to class body out ≡ refuseSend 3 r out
+    unfolding sendCall
+    short h =
+        cond-no (brokenRecord r) (refuseSend 2 r out) behind (record-kept n cap w g few i hi)
+        ∙ cond-yes (ltb (length out) outSize) (refuseSend 3 r out) (settle (send (nodeOf r []) to body)) h
 
-  -- one that is lent less
-  pub send-short : (to : ℕ) (body out : List ℕ) → length out < outSize → sendCall r to body out ≡ refuseSend 3 r out
-  unfolding sendCall
-  send-short to body out h =
-      cond-no (brokenRecord r) (refuseSend 2 r out)
-      (cond (ltb (length out) outSize) (refuseSend 3 r out) (settle out (send (nodeOf r []) to body))) (record-kept n cap w g few i hi)
-      ∙ cond-yes (ltb (length out) outSize) (refuseSend 3 r out) (settle out (send (nodeOf r []) to body)) (lt→ltb (length out) outSize h)
+    -- where the class has the right to the body, the call leaves what the protocol's send leaves
+    settled : AllBytes body → outSize ≤ length out → lacksRight ours class body ≡ false → Case to body → Left (send d to body) (settle (send (with-held []) to body))
+    settled bytes long may (refuses k t x e) =
+        subst (λ (o : protocol.Outcome). Left o (settle (send (with-held []) to body))) (sym (e (w .nodes i .held)))
+        (subst (λ (o : protocol.Outcome). Left (protocol.refuse k d) (settle o)) (sym (e []))
+        (refused-agrees d k (sent (answer.Refused k)) out (says-no k t x)))
+    settled bytes long may (accepts fits e) =
+        subst (λ (o : protocol.Outcome). Left o (settle (send (with-held []) to body))) (sym (e (w .nodes i .held)))
+        (subst (Left (sending d to body)) (sym (ap settle (e []) ∙ permitted))
+        (record {
+          node = refl;
+          queue = refl;
+          answer = record { acceptance = refl; names = refl; taken = refl; given = refl; expected = inl refl };
+          frames = issued-frames out issues (omega (
+            arith,
+            send-room (sentMessage d to body) (user-fits to body fits) extras (trim-bytes 12 i n cap (clear i to (w .nodes i .matrix))),
+          ));
+          bodies = all-bytes;
+        }))
+      where
+        permitted : permitSend r class body out (sending (with-held []) to body) ≡ acceptSend r out (sending (with-held []) to body)
+        permitted = ap (λ (t : Bool). cond t (refuseSend 21 r out) (acceptSend r out (sending (with-held []) to body))) may
+
+        extras : List Message
+        extras = (sentMatrix d to) .extras
+
+        issues : List Message
+        issues = sentMessage d to body ∷ (sentMatrix d to) .extras
+
+        all-bytes : (p : ℕ) (m : Message) → getElem? (sentMessage d to body ∷ (sentMatrix d to) .extras) p ≡ some m → AllBytes (m .body)
+        all-bytes zero m a = let z : sentMessage d to body ≡ m = cc in subst (λ (x : Message). AllBytes (x .body)) z bytes
+        all-bytes (suc p) m a =
+            subst (λ (x : List ℕ). AllBytes x) (sym (trim-bare 12 i n cap (clear i to (w .nodes i .matrix)) p m a)) (small-bytes [] tt)
+
+    pub send-agrees : AllBytes body → outSize ≤ length out → lacksRight ours class body ≡ false → Left (send d to body) (sendCall r to class body out)
+    send-agrees bytes h may = subst (Left (send d to body)) (sym (made h)) (settled bytes h may (case to body))
+
+    -- the call is refused
+    pub record NotSent (c : AfterSend) : Type 0 where
+      pub number : ℕ
+      pub says : SaysNo (sent (answer.Refused number))
+      pub same : c ≡ refuseSend number r out
+
+    -- where the class lacks the right, it is: with 21, unless an earlier check is met
+    lacking : T (lacksRight ours class body) → Case to body → NotSent (settle (send (with-held []) to body))
+    lacking l (refuses k t x e) = record { number = k; says = says-no k t x; same = ap settle (e []) }
+    lacking l (accepts fits e) = record {
+      number = 21;
+      says = says-no 21 tt (inr (inr (inr (inr (inl refl)))));
+      same = ap settle (e []) ∙ cond-yes (lacksRight ours class body) (refuseSend 21 r out) (acceptSend r out (sending (with-held []) to body)) l;
+    }
+
+    pub send-barred : T (barred class body out) → NotSent (sendCall r to class body out)
+    send-barred t = go (decide (ltb (length out) outSize))
+      where
+        go : T (ltb (length out) outSize) ⊎ T (not (ltb (length out) outSize)) → NotSent (sendCall r to class body out)
+        go (inl s) = record { number = 3; says = says-no 3 tt (inr (inl refl)); same = short s }
+        go (inr s) =
+            subst NotSent (sym (made (nltb→le (length out) outSize s)))
+            (lacking (right (or-T (ltb (length out) outSize) (lacksRight ours class body) t)) (case to body))
+          where
+            right : T (ltb (length out) outSize) ⊎ T (lacksRight ours class body) → T (lacksRight ours class body)
+            right (inl x) = absurd (T-not (ltb (length out) outSize) s x)
+            right (inr x) = x

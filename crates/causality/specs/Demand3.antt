@@ -31,17 +31,17 @@ use Rattle.node.specs.Calls.{sendCall, offerCall, deliverCall}
 
 -- ---- A list of steps
 
--- a step: a send at a node, to any number, of any body, lent the frame output `out`; an offer at a node of an issue (counted from 0);
+-- a step: a send at a node, to any number, by any class, of any body, lent the frame output `out`; an offer at a node of an issue (counted from 0);
 -- or a deliver at a node, lent the frame output and the body output. Lent outputs have any bytes and any length.
 pub data Step : Type 0 where
-  sends : (node to : ℕ) (body out : List ℕ) → Step
+  sends : (node to class : ℕ) (body out : List ℕ) → Step
   offers : (node issue : ℕ) → Step
   delivers : (node : ℕ) (out body : List ℕ) → Step
 
 -- the bodies that a list sends are made of bytes, as slices of u8 are
 abbrev pub BodiesOfBytes : List Step → Type 0
 BodiesOfBytes [] = Unit {0}
-BodiesOfBytes (sends i to body out ∷ l) = AllBytes body × BodiesOfBytes l
+BodiesOfBytes (sends i to class body out ∷ l) = AllBytes body × BodiesOfBytes l
 BodiesOfBytes (offers i p ∷ l) = BodiesOfBytes l
 BodiesOfBytes (delivers i out body ∷ l) = BodiesOfBytes l
 
@@ -144,7 +144,7 @@ offerIssue w i p (some g) = offerAt w i (offers i p) (offerCall (w .records i) (
 
 -- a step of a list of n nodes; one at no node of the list, or an offer of what was not issued earlier, is no step: the world stays as it is
 unfoldable pub step : ℕ → World → Step → World
-step n w (sends i to body out) = cond (ltb i n) (sendAt w i (sends i to body out) (sendCall (w .records i) to body out)) w
+step n w (sends i to class body out) = cond (ltb i n) (sendAt w i (sends i to class body out) (sendCall (w .records i) to class body out)) w
 step n w (offers i p) = cond (ltb i n) (offerIssue w i p (getElem? (w .log) p)) w
 step n w (delivers i out body) = cond (ltb i n) (deliverAt w i (delivers i out body) (deliverCall (w .records i) (w .queues i) out body)) w
 

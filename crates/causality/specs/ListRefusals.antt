@@ -1,4 +1,4 @@
--- Which refusals the calls of a list can meet: those of an input that a caller chose (3, 6, 7), and those of a frame that comes amiss (12, 14, 15, 16).
+-- Which refusals the calls of a list can meet: those of an input that a caller chose (3, 6, 7, 21), and those of a frame that comes amiss (12, 14, 15, 16).
 use Prim.Native.Nat.{ℕ, _<_}
 use mathlib.Core.List.{List, [], _∷_}
 use mathlib.Core.Logic.{_⊎_}
@@ -15,7 +15,7 @@ OneOf k (j ∷ l) = (k ≡ j) ⊎ OneOf k l
 
 -- with what a send, an offer and a deliver may be refused
 abbrev pub possible : Answer → List ℕ
-possible (sent a) = 3 ∷ 6 ∷ 7 ∷ []
+possible (sent a) = 3 ∷ 6 ∷ 7 ∷ 21 ∷ []
 possible (offered a) = 12 ∷ 14 ∷ 15 ∷ 16 ∷ []
 possible (delivered a) = 3 ∷ []
 

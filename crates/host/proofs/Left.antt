@@ -18,7 +18,9 @@ use Rattle.matrix.specs.Array.{listFrom, vector}
 use Rattle.protocol.specs.Deliver.{countUp}
 use Rattle.protocol.specs.Node.{Node, atLimit}
 use Rattle.protocol.specs.Offer.{claimsTooMuch, deliveredBefore, heldAlready, noRoom, notForMe}
-use Rattle.protocol.specs.Send.{badDestination, sending}
+use Rattle.protocol.specs.Send.{badDestination, longBody, sending}
+use Rattle.rights.specs.Ours.{ours}
+use Rattle.rights.specs.Rights.{lacksRight}
 use Rattle.rules.specs.Rules.{inRange}
 use Rattle.node.proofs.Delivering.{deliver-refused}
 use Rattle.node.proofs.Offering.{offer-refused, take-offer}
@@ -35,7 +37,6 @@ use Rattle.node.specs.declared.DeliverAnswer.the-variants as deliverAnswer
 use Rattle.node.specs.declared.Node.{Node as Record}
 use Rattle.node.specs.declared.OfferAnswer.the-variants as offerAnswer
 use Rattle.node.specs.declared.SendAnswer.the-variants as sendAnswer
-use Rattle.wire.specs.Limits.{maxBody}
 use Rattle.image.proofs.Read.{bad-sealed, bad-unsealed, record-read, unsealed}
 use Rattle.host.specs.Exports.{answerSize, deliverLeft, deliverTold, deliveryBytes, exportedDeliver, exportedOffer, exportedSend, exportedSetUp}
 use Rattle.host.specs.Exports.{DeliverLeft, OfferLeft, SendLeft, nothingBytes, offerBytes, offerLeft, offerTold, sendBytes, sendLeft, sendTold, setUpLeft}
@@ -87,14 +88,14 @@ set-up-done i me n cap i₁ e h p = rw (e, h, p)
 
 -- ---- Send
 
-module _ (i : List ℕ) (to : ℕ) (body out answer : List ℕ) where
+module _ (i : List ℕ) (to class : ℕ) (body out answer : List ℕ) where
   abbrev sent : SendLeft
-  sent = sendTold i answer (sendCall (recordIn i) to body out) (sendCall (recordIn i) to body out .result .answer)
+  sent = sendTold i answer (sendCall (recordIn i) to class body out) (sendCall (recordIn i) to class body out .result .answer)
 
   abbrev behindSend : ℕ
   behindSend =
       let d : Node = nodeOf (recordIn i) [] in
-      cond (atLimit d) 5 (cond (badDestination d to) 6 (cond (ltb maxBody (length body)) 7 0))
+      cond (atLimit d) 5 (cond (badDestination d to) 6 (cond (longBody body) 7 (cond (lacksRight ours class body) 21 0)))
 
   -- an answer that is too short counts as no room
   abbrev pub sendRoom : ℕ
@@ -104,72 +105,72 @@ module _ (i : List ℕ) (to : ℕ) (body out answer : List ℕ) where
   room-short true = refl
   room-short false = refl
 
-  send-first : sendRefusal (recordIn i) to (length body) sendRoom
+  send-first : sendRefusal (recordIn i) to class body sendRoom
       ≡ cond (brokenRecord (recordIn i)) 2 (cond (ltb (length answer) answerSize || ltb (length out) outSize) 3 behindSend)
   unfolding sendRefusal
   send-first = rw (room-short (ltb (length answer) answerSize))
 
-  send-own : (sendRefusal (recordIn i) to (length body) (length out) ≡ 0 → ⊥)
-      → sent ≡ sendLeft (sendRefusal (recordIn i) to (length body) (length out)) i out answer
-  send-own h = ap (λ (c : AfterSend). sendTold i answer c (c .result .answer)) (sym (send-refused (recordIn i) to body out _ refl h))
+  send-own : (sendRefusal (recordIn i) to class body (length out) ≡ 0 → ⊥)
+      → sent ≡ sendLeft (sendRefusal (recordIn i) to class body (length out)) i out answer
+  send-own h = ap (λ (c : AfterSend). sendTold i answer c (c .result .answer)) (sym (send-refused (recordIn i) to class body out _ refl h))
 
-  pub send-20 : unsealed i ≡ true → sendLeft 20 i out answer ≡ exportedSend i to body out answer
+  pub send-20 : unsealed i ≡ true → sendLeft 20 i out answer ≡ exportedSend i to class body out answer
   unfolding exportedSend
   send-20 e = rw (bad-unsealed i e)
 
-  pub send-why : unsealed i ≡ false → (k : ℕ) → k ≡ sendRefusal (recordIn i) to (length body) sendRoom → (k ≡ 0 → ⊥)
-      → sendLeft (cond (eqb k 2) 20 k) i out answer ≡ exportedSend i to body out answer
+  pub send-why : unsealed i ≡ false → (k : ℕ) → k ≡ sendRefusal (recordIn i) to class body sendRoom → (k ≡ 0 → ⊥)
+      → sendLeft (cond (eqb k 2) 20 k) i out answer ≡ exportedSend i to class body out answer
   unfolding exportedSend sendRefusal
   send-why u k e h =
       let d : Node = nodeOf (recordIn i) [] in
       rw (bad-sealed i u)
       (refused-by (λ (j : ℕ). sendLeft j i out answer) sent (brokenRecord (recordIn i)) (ltb (length answer) answerSize) (ltb (length out) outSize) behindSend
       (not-two (atLimit d) 5 _ (λ z. omega arith) (not-two (badDestination d to) 6 _ (λ z. omega arith)
-      (not-two (ltb maxBody (length body)) 7 0 (λ z. omega arith) (λ z. omega arith)))) send-own k (e ∙ send-first) h)
+      (not-two (longBody body) 7 _ (λ z. omega arith) (not-two (lacksRight ours class body) 21 0 (λ z. omega arith) (λ z. omega arith))))) send-own k (e ∙ send-first) h)
 
   -- what a send that passed the checks knows
   pub record SendReady : Type 0 where
     pub long : ltb (length answer) answerSize ≡ false
-    pub passes : sendRefusal (recordIn i) to (length body) (length out) ≡ 0
-    pub made : exportedSend i to body out answer ≡ sent
+    pub passes : sendRefusal (recordIn i) to class body (length out) ≡ 0
+    pub made : exportedSend i to class body out answer ≡ sent
 
-  pub send-ready : unsealed i ≡ false → sendRefusal (recordIn i) to (length body) sendRoom ≡ 0 → SendReady
+  pub send-ready : unsealed i ≡ false → sendRefusal (recordIn i) to class body sendRoom ≡ 0 → SendReady
   unfolding exportedSend sendRefusal
   send-ready u e =
       let p = passed-by (brokenRecord (recordIn i)) (ltb (length answer) answerSize) (ltb (length out) outSize) behindSend (sym send-first ∙ e) in
       record { long = p .answer; passes = p .call; made = rw (bad-sealed i u, p .record₀, p .answer) }
 
   pub send-done : SendReady → (bytes extras : ℕ) (m out₁ i₁ answer₁ : List ℕ)
-      → afterSend (record { answer = sendAnswer.Sent bytes extras; node = withMatrix m (recordIn i) }) out₁ ≡ sendCall (recordIn i) to body out
+      → afterSend (record { answer = sendAnswer.Sent bytes extras; node = withMatrix m (recordIn i) }) out₁ ≡ sendCall (recordIn i) to class body out
       → i₁ ≡ image (withMatrix m (recordIn i)) → answer₁ ≡ put answer 0 (sendBytes bytes extras)
-      → sendLeft 0 i₁ out₁ answer₁ ≡ exportedSend i to body out answer
+      → sendLeft 0 i₁ out₁ answer₁ ≡ exportedSend i to class body out answer
   send-done r bytes extras m out₁ i₁ answer₁ e p q =
       ap₂ (λ (x y : List ℕ). sendLeft 0 x out₁ y) p q ∙ ap (λ (c : AfterSend). sendTold i answer c (c .result .answer)) e ∙ sym (r .made)
 
 -- what the node issued, of the record that the image reads as
-pub send-issued : (i : List ℕ) (to : ℕ) (body out m m₁ out₁ : List ℕ) (bytes extras : ℕ) → m ≡ recordIn i .m
-    → sendRefusal (recordIn i) to (length body) (length out) ≡ 0
+pub send-issued : (i : List ℕ) (to class : ℕ) (body out m m₁ out₁ : List ℕ) (bytes extras : ℕ) → m ≡ recordIn i .m
+    → sendRefusal (recordIn i) to class body (length out) ≡ 0
     → ((v : List ℕ) (held : ℕ) → (let r : Record = record { me = getD i 0 0; n = getD i 1 0; cap = getD i 2 0; m = m; deliv = v; held = held } in
     afterSend (record { answer = sendAnswer.Sent bytes extras; node = withMatrix m₁ r }) out₁ ≡ acceptSend r out (sending (nodeOf r []) to body)))
-    → afterSend (record { answer = sendAnswer.Sent bytes extras; node = withMatrix m₁ (recordIn i) }) out₁ ≡ sendCall (recordIn i) to body out
+    → afterSend (record { answer = sendAnswer.Sent bytes extras; node = withMatrix m₁ (recordIn i) }) out₁ ≡ sendCall (recordIn i) to class body out
 unfolding recordIn
-send-issued i to body out m m₁ out₁ bytes extras p k e =
+send-issued i to class body out m m₁ out₁ bytes extras p k e =
     e (recordIn i .deliv) (recordIn i .held)
     ∙ ap (λ (r : Record). acceptSend r out (sending (nodeOf r []) to body)) (record-read i m (recordIn i .deliv) p refl)
-    ∙ send-accepted (recordIn i) to body out k
+    ∙ send-accepted (recordIn i) to class body out k
 
 -- the matrix left has its length
-pub send-cells : (r : Record) (to : ℕ) (body out m₁ out₁ : List ℕ) (bytes extras : ℕ) → sendRefusal r to (length body) (length out) ≡ 0
-    → afterSend (record { answer = sendAnswer.Sent bytes extras; node = withMatrix m₁ r }) out₁ ≡ sendCall r to body out → length m₁ ≡ 144
-send-cells r to body out m₁ out₁ bytes extras k e =
-    ap (λ (c : AfterSend). length (c .result .node .m)) (e ∙ sym (send-accepted r to body out k))
+pub send-cells : (r : Record) (to class : ℕ) (body out m₁ out₁ : List ℕ) (bytes extras : ℕ) → sendRefusal r to class body (length out) ≡ 0
+    → afterSend (record { answer = sendAnswer.Sent bytes extras; node = withMatrix m₁ r }) out₁ ≡ sendCall r to class body out → length m₁ ≡ 144
+send-cells r to class body out m₁ out₁ bytes extras k e =
+    ap (λ (c : AfterSend). length (c .result .node .m)) (e ∙ sym (send-accepted r to class body out k))
     ∙ length-flat (sending (nodeOf r []) to body .node .matrix)
 
 -- its numbers are small
-pub send-small : (r r₁ : Record) (to : ℕ) (body out out₁ : List ℕ) (bytes extras : ℕ)
-    → afterSend (record { answer = sendAnswer.Sent bytes extras; node = r₁ }) out₁ ≡ sendCall r to body out → (extras < 256) × (bytes < 65536)
-send-small r r₁ to body out out₁ bytes extras e =
-    let f : SentFacts out out₁ bytes extras = subst (λ (c : AfterSend). SendTold out (c .result .answer) c) (sym e) (send-told r to body out) in
+pub send-small : (r r₁ : Record) (to class : ℕ) (body out out₁ : List ℕ) (bytes extras : ℕ)
+    → afterSend (record { answer = sendAnswer.Sent bytes extras; node = r₁ }) out₁ ≡ sendCall r to class body out → (extras < 256) × (bytes < 65536)
+send-small r r₁ to class body out out₁ bytes extras e =
+    let f : SentFacts out out₁ bytes extras = subst (λ (c : AfterSend). SendTold out (c .result .answer) c) (sym e) (send-told r to class body out) in
     (omega (arith, f .few), omega (arith, f .most))
 
 -- ---- Offer

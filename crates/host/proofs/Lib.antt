@@ -1,5 +1,4 @@
 -- Laws that the proofs of this crate cite.
 pub mod Left
-pub mod Cases
 pub mod Refused
 pub mod TrailTold

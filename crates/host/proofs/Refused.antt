@@ -7,14 +7,15 @@ use mathlib.Core.Path.{_≡_, refl}
 use lib.Dec.{eqb, ltb}
 use lib.ListN.{length}
 use Rattle.wire.proofs.Tests.{cond-elim}
-use Rattle.protocol.specs.Answer.{Label, Outcome}
+use Rattle.node.proofs.Delivering.{concluded}
+use Rattle.protocol.specs.Answer.{Label, Outcome, delivery}
 use Rattle.node.specs.Answers.{AfterDeliver, AfterOffer, AfterSend}
 use Rattle.node.specs.Calls.{acceptDeliver}
 use Rattle.node.specs.SetUp.{setUp}
 use Rattle.node.specs.declared.SetUpAnswer.{SetUpAnswer}
 use Rattle.node.specs.declared.SetUpAnswer.the-variants as setUpAnswer
 use Rattle.image.specs.Image.{badImage, image, imageSize, recordIn}
-use Rattle.host.proofs.Cases.{deliver-cases, offer-cases, send-cases}
+use Rattle.node.proofs.Cases.{deliver-cases, offer-cases, send-cases}
 use Rattle.host.specs.Exports.{DeliverLeft, OfferLeft, SendLeft, SetUpLeft, answerSize, deliverTold, exportedDeliver, exportedOffer}
 use Rattle.host.specs.Exports.{exportedSend, exportedSetUp, offerTold, sendTold, setUpLeft, setUpTold}
 
@@ -33,16 +34,16 @@ set-up-leaves i me n cap = go (setUp me n cap .answer)
         cond-elim (λ (x : SetUpLeft). ¬ (x .status ≡ 0) → x .image ≡ i) (eqb (length i) imageSize) (setUpLeft 0 (image (setUp me n cap .node))) (setUpLeft 20 i)
         (λ _ z. absurd (z refl)) (λ _ _. refl) h
 
-module _ (i : List ℕ) (to : ℕ) (body out answer : List ℕ) where
+module _ (i : List ℕ) (to class : ℕ) (body out answer : List ℕ) where
   abbrev SendSame : SendLeft → Type 0
   SendSame c = ¬ (c .status ≡ 0) → (c .image ≡ i) × (c .out ≡ out) × (c .answer ≡ answer)
 
-  pub send-leaves : SendSame (exportedSend i to body out answer)
+  pub send-leaves : SendSame (exportedSend i to class body out answer)
   unfolding exportedSend
   send-leaves =
       three SendSame i answer (λ _. (refl, refl, refl)) (λ _. (refl, refl, refl))
-      (send-cases (λ (c : AfterSend). SendSame (sendTold i answer c (c .result .answer))) (recordIn i) to body out (λ k _ _. (refl, refl, refl))
-      (λ o h. absurd (h refl)))
+      (send-cases (λ (c : AfterSend). SendSame (sendTold i answer c (c .result .answer))) (recordIn i) to class body out (λ k _ _. (refl, refl, refl))
+      (λ _ h. absurd (h refl)))
 
 module _ (i frame queue answer : List ℕ) where
   abbrev OfferSame : OfferLeft → Type 0
@@ -53,7 +54,7 @@ module _ (i frame queue answer : List ℕ) where
   offer-leaves =
       three OfferSame i answer (λ _. (refl, refl, refl)) (λ _. (refl, refl, refl))
       (offer-cases (λ (c : AfterOffer). OfferSame (offerTold i answer c (c .result .answer))) (recordIn i) frame queue (λ k _ _. (refl, refl, refl))
-      (λ o h. absurd (h refl)))
+      (λ _ h. absurd (h refl)))
 
 module _ (i queue out body answer : List ℕ) where
   abbrev DeliverSame : DeliverLeft → Type 0
@@ -71,4 +72,5 @@ module _ (i queue out body answer : List ℕ) where
   unfolding exportedDeliver
   deliver-leaves =
       three DeliverSame i answer (λ _. (refl, refl, refl, refl, refl)) (λ _. (refl, refl, refl, refl, refl))
-      (deliver-cases ToldSame (recordIn i) queue out body (λ k _ _. (refl, refl, refl, refl, refl)) taken)
+      (deliver-cases ToldSame (recordIn i) queue out body (λ k _ _. (refl, refl, refl, refl, refl))
+      (λ _. taken (concluded (recordIn i) queue) (delivery ((concluded (recordIn i) queue) .answer))))

@@ -79,9 +79,9 @@ abbrev pub sendTold : List ℕ → List ℕ → AfterSend → SendAnswer → Sen
 sendTold i answer c (sendAnswer.Refused k) = sendLeft k i (c .out) answer
 sendTold i answer c (sendAnswer.Sent bytes extras) = sendLeft 0 (image (c .result .node)) (c .out) (put answer 0 (sendBytes bytes extras))
 
-unfoldable pub exportedSend : List ℕ → ℕ → (body out answer : List ℕ) → SendLeft
-exportedSend i to body out answer =
-    let c : AfterSend = sendCall (recordIn i) to body out in
+unfoldable pub exportedSend : List ℕ → (to class : ℕ) (body out answer : List ℕ) → SendLeft
+exportedSend i to class body out answer =
+    let c : AfterSend = sendCall (recordIn i) to class body out in
     cond (badImage i) (sendLeft 20 i out answer)
     (cond (ltb (length answer) answerSize) (sendLeft 3 i out answer) (sendTold i answer c (c .result .answer)))
 

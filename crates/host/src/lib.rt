@@ -48,17 +48,18 @@ fn room(out: usize, answer: usize) -> usize
     out
 }
 
-/// Send: writes the user frame and then trim's extra frames into `out`; the answer has the extra frames and the bytes issued.
+/// Send, as a node of this class: writes the user frame and then trim's extra frames into `out`; the answer has the extra frames and the bytes issued.
 #[no_mangle]
 pub extern "C" fn node_send(
     image: &mut [u8],
     to: usize,
+    class: usize,
     body: &[u8],
     out: &mut [u8],
     answer: &mut [u8],
 ) -> u8
     ensures { λ r. ⌜ sendLeft r (now (image .exit)) (now (out .exit)) (now (answer .exit))
-        ≡ exportedSend (now (image .entry)) to (now (body .entry)) (now (out .entry)) (now (answer .entry)) ⌝ }
+        ≡ exportedSend (now (image .entry)) to class (now (body .entry)) (now (out .entry)) (now (answer .entry)) ⌝ }
 {
     if image::unsealed(image) {
         return 20;
@@ -78,7 +79,8 @@ pub extern "C" fn node_send(
         &deliv,
         image[image::HELD],
         to,
-        body.len(),
+        class,
+        body,
         room,
     );
     if why != 0 {

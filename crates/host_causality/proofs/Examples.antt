@@ -37,7 +37,7 @@ steps (s ∷ l) r = made s answer ∷ steps l r
 abbrev strays : List Call → List Call
 strays r =
     stray (straySetUp (latest 2) 2 3 10)
-    ∷ stray (straySend (latest 0) 1 [] [] (replicate 10 0))
+    ∷ stray (straySend (latest 0) 1 0 [] [] (replicate 10 0))
     ∷ stray (strayDeliver (other []) (latest 1) [] [] answer)
     ∷ r
 
@@ -59,7 +59,7 @@ unfolding exportedSetUp setUp inRange
 set-up-1 i = refl
 
 -- 20 for the image, or 3 for the answer
-send-short : (i : List ℕ) → exportedSend i 1 [] [] (replicate 10 0) .status ≡ 0 → ⊥
+send-short : (i : List ℕ) → exportedSend i 1 0 [] [] (replicate 10 0) .status ≡ 0 → ⊥
 unfolding exportedSend
 send-short i =
     cond-elim (λ (c : SendLeft). c .status ≡ 0 → ⊥) (badImage i) (sendLeft 20 i [] (replicate 10 0)) (sendLeft 3 i [] (replicate 10 0))
@@ -72,7 +72,7 @@ deliver-20 q = refl
 strays-allowed : (r : List Call) → Always r → Always (strays r)
 strays-allowed r a w =
     let x : HostWorld = call 3 w (stray (straySetUp (latest 2) 2 3 10)) in
-    let y : HostWorld = call 3 x (stray (straySend (latest 0) 1 [] [] (replicate 10 0))) in (
+    let y : HostWorld = call 3 x (stray (straySend (latest 0) 1 0 [] [] (replicate 10 0))) in (
       λ z. omega (arith, set-up-1 (w .images 2)),
       (
         send-short (x .images 0),

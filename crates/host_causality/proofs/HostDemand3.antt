@@ -5,19 +5,21 @@ use mathlib.Core.Logic.{_⊎_}
 use mathlib.Core.Path.{_∙_, _≡_, ap, ap₂, subst, sym}
 use lib.ListN.{getElem?, length}
 use Rattle.wire.specs.Limits.{maxHeld}
-use Rattle.node.specs.Calls.{deliverCall}
-use Rattle.causality.proofs.Demand3.{acceptedOnce, demand3, listRefusals}
+use Rattle.node.specs.Answers.{sendNumber}
+use Rattle.node.specs.Calls.{deliverCall, sendCall}
+use Rattle.causality.proofs.Demand3.{acceptedOnce, demand3, listRefusals, rightsKept}
 use Rattle.causality.specs.AcceptedOnce.{AcceptedOnceFor}
 use Rattle.causality.specs.Demand3.{DeliveredAt, DeliversNew, Demand3For, Earliest, Event, Held, Issue, World, destination, heldAt, label, run, start}
 use Rattle.causality.specs.ListRefusals.{ListRefusalsFor}
+use Rattle.causality.specs.Rights.{RightsFor}
 use Rattle.image.proofs.Images.{imageLaws}
-use Rattle.host.specs.Exports.{DeliverLeft, answerSize, exportedDeliver, exportedOffer}
+use Rattle.host.specs.Exports.{DeliverLeft, answerSize, exportedDeliver, exportedOffer, exportedSend}
 use Rattle.image.specs.Image.{SoundImage, image}
 use Rattle.host_causality.proofs.Answers.{read-label}
 use Rattle.host_causality.proofs.Forgotten.{delivered-back}
-use Rattle.host_causality.proofs.Seen.{accepts-there, delivers-there, seen-demand3, seen-once, seen-refusals, sound, turn, v}
+use Rattle.host_causality.proofs.Seen.{accepts-there, delivers-there, seen-demand3, seen-once, seen-refusals, seen-rights, sound, turn, v}
 use Rattle.host_causality.proofs.Sees.{Sees, run-sees}
-use Rattle.host_causality.proofs.Shown.{deliver-shown, offer-shown}
+use Rattle.host_causality.proofs.Shown.{deliver-shown, offer-shown, send-shown}
 use Rattle.host_causality.proofs.Starts.{start-sees}
 use Rattle.host_causality.specs.HostDemand3.{HostDelivers, HostDemand3, HostDemand3For, HostWorld, hostRun, hostStart, labelIn}
 use Rattle.host_causality.specs.HostDemand3.{stepsOf}
@@ -26,6 +28,13 @@ use Rattle.host_causality.specs.HostDemand3.{stepsOf}
 module _ (n cap : ℕ) (h : HostWorld) (w : World) (m : Sees n h w) where
   images : (i : ℕ) → i < n → SoundImage (h .images i)
   images i hi = subst SoundImage (sym (m .images i hi)) (imageLaws .written (w .records i) (sound n h w m i hi))
+
+  -- a send returns the number that the node's send answers with
+  send-status : (i to class : ℕ) (body out answer : List ℕ) → i < n → answerSize ≤ length answer
+      → exportedSend (h .images i) to class body out answer .status ≡ sendNumber (sendCall (w .records i) to class body out .result .answer)
+  send-status i to class body out answer hi long =
+      ap (λ (x : List ℕ). exportedSend x to class body out answer .status) (m .images i hi)
+      ∙ send-shown (w .records i) (sound n h w m i hi) answer long i to class body out .0 .status
 
   module _ (d : Demand3For n cap w) where
     abbrev Accepting : World → Type 0
@@ -74,15 +83,20 @@ module _ (n cap : ℕ) (h : HostWorld) (w : World) (m : Sees n h w) where
         let a = delivers-there n h w m cap d p g e c in
         shown (destination (g .frame)) (a .0) (a .1)
 
-    host-world : ListRefusalsFor w → AcceptedOnceFor w → HostDemand3For n cap h
-    host-world r o =
+    host-world : ListRefusalsFor w → AcceptedOnceFor w → RightsFor n w → HostDemand3For n cap h
+    host-world r o k =
         record {
           demand3 = turn n h w m (Demand3For n cap) (seen-demand3 n h w m cap d);
           accepts = turn n h w m Accepting accepting;
           delivers = turn n h w m Delivering delivering;
+          permits =
+              λ i to class body out answer s long may. send-status i to class body out answer (s .node) long ∙ k .accepts i to class body out s may;
+          forbids =
+              λ i to class body out answer s long bar. send-status i to class body out answer (s .node) long ∙ k .refuses i to class body out s bar;
           images = images;
           refusals = turn n h w m ListRefusalsFor (seen-refusals n h w m r);
           acceptedOnce = turn n h w m AcceptedOnceFor (seen-once n h w m o);
+          rights = turn n h w m (RightsFor n) (seen-rights n h w m k);
         }
 
 pub hostDemand3 : HostDemand3
@@ -91,3 +105,4 @@ hostDemand3 n cap inside lent calls k =
     host-world n cap (hostRun n (hostStart lent n cap) calls) (run n (start n cap) l)
     (run-sees n calls (hostStart lent n cap) (start n cap) (start-sees n cap lent (k .setUps)) (k .each))
     (demand3 n cap inside l (k .bodies) (k .few)) (listRefusals n cap inside l (k .bodies) (k .few)) (acceptedOnce n cap inside l (k .bodies) (k .few))
+    (rightsKept n cap inside l (k .bodies) (k .few))

@@ -15,8 +15,8 @@ use Rattle.matrix.specs.Array.{entry}
 use Rattle.matrix.specs.Matrix.{count}
 use Rattle.holdback.specs.Slots.{heldFrames}
 use Rattle.protocol.proofs.Lists.{at-map, map-at}
-use Rattle.node.specs.Answers.{AfterDeliver, AfterOffer, offerNumber}
-use Rattle.node.specs.Calls.{deliverCall, offerCall, refuseDeliver, refuseOffer}
+use Rattle.node.specs.Answers.{AfterDeliver, AfterOffer, offerNumber, sendNumber}
+use Rattle.node.specs.Calls.{deliverCall, offerCall, refuseDeliver, refuseOffer, sendCall}
 use Rattle.node.specs.Record.{brokenRecord}
 use Rattle.node.specs.Sizes.{outSize}
 use Rattle.node.specs.declared.Node.{Node as Record}
@@ -24,6 +24,7 @@ use Rattle.causality.specs.AcceptedOnce.{AcceptedOnceFor, Accepts}
 use Rattle.causality.specs.Demand3.{Delivered, Demand3For, DeliversNew, Earliest, Event, Held, HeldAgrees, Issue}
 use Rattle.causality.specs.Demand3.{World, accepted, delivered, deliveries, delivery, destination, heldAt}
 use Rattle.causality.specs.Demand3.{offered, offersAccepted, queued, refusal}
+use Rattle.causality.specs.Rights.{RightsFor, SentBy}
 use Rattle.causality.specs.ListRefusals.{Expected, ListRefusalsFor, OneOf, impossible}
 use Rattle.image.proofs.Images.{imageLaws}
 use Rattle.image.specs.Image.{SoundRecord, recordIn}
@@ -220,3 +221,41 @@ module _ (n : ℕ) (h : HostWorld) (w : World) (m : Sees n h w) where
       back : (e f : Event) (p : ℕ) → forgetEvent e ≡ f → Accepts f p → Accepts e p
       back e f p z a =
           record { node = a .node; offered = ap (λ (x : Event). x .step) z ∙ a .offered; accepted = accepted-back e f z (a .accepted) }
+
+  -- the send of a frame, there and back
+  sent-there : (g : Issue) (class : ℕ) → SentBy w g class → SentBy v g class
+  sent-there g class s =
+      record {
+        out = s .out;
+        event = forgetEvent (s .event);
+        at = at-map forgetEvent (w .history) (g .step) (s .event) (s .at);
+        step = s .step;
+        accepted = ap (λ (k : ℕ). eqb k 0) (same-refusal (s .event .answer)) ∙ s .accepted;
+      }
+
+  sent-back : (g : Issue) (class : ℕ) → SentBy v g class → SentBy w g class
+  sent-back g class s =
+      let x = map-at forgetEvent (w .history) (g .step) (s .event) (s .at) in
+      record {
+        out = s .out;
+        event = x .0;
+        at = x .1;
+        step = ap (λ (e : Event). e .step) (x .2) ∙ s .step;
+        accepted = accepted-back (x .0) (s .event) (x .2) (s .accepted);
+      }
+
+  pub seen-rights : RightsFor n w → RightsFor n v
+  seen-rights r =
+      record {
+        kinds = r .kinds;
+        sent = λ p g at u. let x = r .sent p g at u in (x .0, sent-there g (x .0) (x .1));
+        right = λ p class g at u s. r .right p class g at u (sent-back g class s);
+        motion = λ p class g at u s. r .motion p class g at u (sent-back g class s);
+        accepts = λ i to class body out s may. same i to class body out (s .node) ∙ r .accepts i to class body out s may;
+        refuses = λ i to class body out s bar. same i to class body out (s .node) ∙ r .refuses i to class body out s bar;
+        bare = r .bare;
+      }
+    where
+      same : (i to class : ℕ) (body out : List ℕ) → i < n
+          → sendNumber (sendCall (v .records i) to class body out .result .answer) ≡ sendNumber (sendCall (w .records i) to class body out .result .answer)
+      same i to class body out hi = ap (λ (x : Record). sendNumber (sendCall x to class body out .result .answer)) (same-record i hi)

@@ -78,9 +78,9 @@ module _ (n : ℕ) (h : HostWorld) (w : World) (m : Sees n h w) where
     sound = sound-record r (w .queues i) (m .nodes i hi)
 
     -- the world after each exported call, lent the image x and the queue y
-    abbrev Sent : (to : ℕ) (body out x : List ℕ) → Type 0
-    Sent to body out x =
-        Sees n (sendMade h i (sends i to body out) (exportedSend x to body out answer)) (sendAt w i (sends i to body out) (sendCall r to body out))
+    abbrev Sent : (to class : ℕ) (body out x : List ℕ) → Type 0
+    Sent to class body out x =
+        Sees n (sendMade h i (sends i to class body out) (exportedSend x to class body out answer)) (sendAt w i (sends i to class body out) (sendCall r to class body out))
 
     abbrev Offered : ℕ → Issue → (x y : List ℕ) → Type 0
     Offered p g x y =
@@ -95,14 +95,14 @@ module _ (n : ℕ) (h : HostWorld) (w : World) (m : Sees n h w) where
     own : (P : List ℕ → List ℕ → Type 0) → P (image r) (w .queues i) → P (h .images i) (h .queues i)
     own P p = subst (λ (x : List ℕ). P x (h .queues i)) (sym (m .images i hi)) (subst (P (image r)) (sym (m .queues i)) p)
 
-    send-sees : (to : ℕ) (body out : List ℕ) → Sent to body out (h .images i)
-    send-sees to body out =
-        own (λ x _. Sent to body out x)
-        (let c = sendCall r to body out in
-        let e = exportedSend (image r) to body out answer in
-        let s = send-shown r sound answer long i to body out in
-        after i hi (sends i to body out) (sent (c .result .answer)) (c .result .node) (w .queues i) (c .out) (e .status) (e .image) (h .queues i)
-        (e .answer) (e .out) (send-keeps r (w .queues i) (m .nodes i hi) to body out) (s .0) (m .queues i) (s .1))
+    send-sees : (to class : ℕ) (body out : List ℕ) → Sent to class body out (h .images i)
+    send-sees to class body out =
+        own (λ x _. Sent to class body out x)
+        (let c = sendCall r to class body out in
+        let e = exportedSend (image r) to class body out answer in
+        let s = send-shown r sound answer long i to class body out in
+        after i hi (sends i to class body out) (sent (c .result .answer)) (c .result .node) (w .queues i) (c .out) (e .status) (e .image) (h .queues i)
+        (e .answer) (e .out) (send-keeps r (w .queues i) (m .nodes i hi) to class body out) (s .0) (m .queues i) (s .1))
 
     offer-sees : (p : ℕ) (g : Issue) → Offered p g (h .images i) (h .queues i)
     offer-sees p g =
@@ -129,7 +129,7 @@ module _ (n : ℕ) (h : HostWorld) (w : World) (m : Sees n h w) where
 
   step-sees : (s : Step) (answer : List ℕ) → answerSize ≤ length answer → Sees n (madeStep n h s answer) (step n w s)
   unfolding madeStep step
-  step-sees (sends i to body out) answer long = both (ltb i n) _ _ (λ t. send-sees answer long i (ltb→lt i n t) to body out)
+  step-sees (sends i to class body out) answer long = both (ltb i n) _ _ (λ t. send-sees answer long i (ltb→lt i n t) to class body out)
   step-sees (offers i p) answer long =
       subst (λ (l : List Issue). Sees n (cond (ltb i n) (issueMade h i p answer (getElem? l p)) h) (step n w (offers i p))) (sym (m .log))
       (both (ltb i n) _ _ (λ t. go (ltb→lt i n t) (getElem? (w .log) p)))

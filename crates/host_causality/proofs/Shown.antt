@@ -1,7 +1,7 @@
 -- An exported call on the image of a sound node shows the host what the node's call answers and leaves. Assumes nothing.
 use Prim.Native.Nat.{_-_, _≤_, ℕ}
 use mathlib.Core.Bool.{cond, false}
-use mathlib.Core.List.{List}
+use mathlib.Core.List.{List, []}
 use mathlib.Core.Option.{Option, none, some}
 use mathlib.Core.Path.{_∙_, _≡_, ap, refl, subst, sym}
 use native.Mathlib.Omega.{arith}
@@ -10,10 +10,13 @@ use lib.ListN.{length}
 use Rattle.wire.proofs.Tests.{cond-no, le→nltb, ne→neqb, of-false}
 use Rattle.frame.specs.Frames.{framesOf}
 use Rattle.frame.specs.Header.{kindByte}
-use Rattle.protocol.specs.Answer.{Label, Outcome, issued}
+use Rattle.protocol.specs.Answer.{Label, Outcome, delivery, issued}
+use Rattle.protocol.specs.Send.{sending}
+use Rattle.node.proofs.Delivering.{concluded}
 use Rattle.node.proofs.Told.{DeliverTold, SendTold, deliver-told, send-told}
 use Rattle.node.specs.Answers.{AfterDeliver, AfterOffer, AfterSend}
 use Rattle.node.specs.Calls.{acceptDeliver, acceptSend, deliverCall, offerCall, sendCall, bodyOf, triedBy}
+use Rattle.node.specs.Record.{nodeOf}
 use Rattle.node.specs.declared.Delivered.{Delivered}
 use Rattle.node.specs.declared.Node.{Node as Record}
 use Rattle.node.specs.declared.SendAnswer.the-variants as send
@@ -21,7 +24,7 @@ use Rattle.node.specs.declared.OfferAnswer.the-variants as offer
 use Rattle.node.specs.declared.DeliverAnswer.the-variants as deliver
 use Rattle.causality.specs.Demand3.{Answer, Step, bytesIssued, delivered, delivers, offered, offers, refusal, sends, sent}
 use Rattle.image.proofs.Images.{imageLaws}
-use Rattle.host.proofs.Cases.{deliver-cases, offer-cases, send-cases}
+use Rattle.node.proofs.Cases.{deliver-cases, offer-cases, send-cases}
 use Rattle.host.specs.Exports.{DeliverLeft, OfferLeft, SendLeft, answerSize, deliverTold, deliverLeft, exportedDeliver, exportedOffer}
 use Rattle.host.specs.Exports.{exportedSend, offerLeft, offerTold, sendLeft, sendTold}
 use Rattle.image.specs.Image.{SoundRecord, badImage, image, recordIn}
@@ -55,25 +58,25 @@ module _ (r : Record) (h : SoundRecord r) (answer : List ℕ) (long : answerSize
 
   -- ---- send
 
-  module _ (i to : ℕ) (body out : List ℕ) where
-    send-told-as : exportedSend (image r) to body out answer ≡ (let c = sendCall r to body out in sendTold (image r) answer c (c .result .answer))
+  module _ (i to class : ℕ) (body out : List ℕ) where
+    send-told-as : exportedSend (image r) to class body out answer ≡ (let c = sendCall r to class body out in sendTold (image r) answer c (c .result .answer))
     unfolding exportedSend
     send-told-as =
         taken-up (sendLeft 20 (image r) out answer) (sendLeft 3 (image r) out answer)
-        (let c = sendCall (recordIn (image r)) to body out in sendTold (image r) answer c (c .result .answer))
-        ∙ ap (λ (x : Record). let c = sendCall x to body out in sendTold (image r) answer c (c .result .answer)) (imageLaws .back r h)
+        (let c = sendCall (recordIn (image r)) to class body out in sendTold (image r) answer c (c .result .answer))
+        ∙ ap (λ (x : Record). let c = sendCall x to class body out in sendTold (image r) answer c (c .result .answer)) (imageLaws .back r h)
 
     abbrev SendShown : AfterSend → SendLeft → Type 0
-    SendShown c e = Shows (sends i to body out) (sent (c .result .answer)) (c .result .node) (e .status) (e .image) (e .answer) × (e .out ≡ c .out)
+    SendShown c e = Shows (sends i to class body out) (sent (c .result .answer)) (c .result .node) (e .status) (e .image) (e .answer) × (e .out ≡ c .out)
 
     abbrev SendToldShown : AfterSend → Type 0
     SendToldShown c = SendShown c (sendTold (image r) answer c (c .result .answer))
 
-    send-told-shown : SendToldShown (sendCall r to body out)
+    send-told-shown : SendToldShown (sendCall r to class body out)
     send-told-shown =
-        send-cases (λ (c : AfterSend). SendTold out (c .result .answer) c → SendToldShown c) r to body out
+        send-cases (λ (c : AfterSend). SendTold out (c .result .answer) c → SendToldShown c) r to class body out
         (λ k z _. (record { status = refl; image = refl; reads = ap sent (no-answer k _ (send.Refused k) z); counts = no-answer k _ 0 z }, refl))
-        accepted (send-told r to body out)
+        (λ _. accepted (sending (nodeOf r []) to body)) (send-told r to class body out)
       where
         accepted : (o : Outcome) → (let c = acceptSend r out o in SendTold out (c .result .answer) c → SendToldShown c)
         accepted o t =
@@ -81,8 +84,8 @@ module _ (r : Record) (h : SoundRecord r) (answer : List ℕ) (long : answerSize
             let x = read-sent answer long (length (framesOf l)) (length l - 1) (omega (arith, t .most)) in
             (record { status = refl; image = refl; reads = ap sent (x .0); counts = x .1 }, refl)
 
-    pub send-shown : SendShown (sendCall r to body out) (exportedSend (image r) to body out answer)
-    send-shown = subst (SendShown (sendCall r to body out)) (sym send-told-as) send-told-shown
+    pub send-shown : SendShown (sendCall r to class body out) (exportedSend (image r) to class body out answer)
+    send-shown = subst (SendShown (sendCall r to class body out)) (sym send-told-as) send-told-shown
 
   -- ---- offer
 
@@ -104,7 +107,7 @@ module _ (r : Record) (h : SoundRecord r) (answer : List ℕ) (long : answerSize
     offer-told-shown =
         offer-cases OfferToldShown r frame queue
         (λ k z. (record { status = refl; image = refl; reads = ap offered (no-answer k _ (offer.Refused k) z); counts = no-answer k _ 0 z }, refl))
-        (λ o. (
+        (λ _. (
           record { status = refl; image = refl; reads = refl; counts = read-offered answer long },
           refl,
         ))
@@ -148,7 +151,7 @@ module _ (r : Record) (h : SoundRecord r) (answer : List ℕ) (long : answerSize
     deliver-told-shown =
         deliver-cases (λ (c : AfterDeliver). DeliverTold r queue out (c .result .answer) c → DeliverToldShown c) r queue out body
         (λ k z _. (record { status = refl; image = refl; reads = ap delivered (no-answer k _ (deliver.Refused k) z); counts = no-answer k _ 0 z }, refl, refl))
-        accepted (deliver-told r queue out body)
+        (λ _. accepted (concluded r queue) (delivery ((concluded r queue) .answer))) (deliver-told r queue out body)
       where
         accepted : (o : Outcome) (a : Option Label) → (let c = acceptDeliver r queue out body o a in
             DeliverTold r queue out (c .result .answer) c → DeliverToldShown c)

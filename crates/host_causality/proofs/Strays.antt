@@ -26,8 +26,8 @@ pub record Leaves (w : HostWorld) (c : StrayLeft) : Type 0 where
 pub stray-leaves : (w : HostWorld) (s : Stray) → ¬ (strayLeft w s .status ≡ 0) → Leaves w (strayLeft w s)
 stray-leaves w (straySetUp i me n cap) h =
     record { same = put-same (w .images) i _ (set-up-leaves (lentBytes (w .images) i) me n cap h); still = λ k. refl }
-stray-leaves w (straySend i to body out answer) h =
-    record { same = put-same (w .images) i _ (send-leaves (lentBytes (w .images) i) to body out answer h .0); still = λ k. refl }
+stray-leaves w (straySend i to class body out answer) h =
+    record { same = put-same (w .images) i _ (send-leaves (lentBytes (w .images) i) to class body out answer h .0); still = λ k. refl }
 stray-leaves w (strayOffer i frame q answer) h =
     let x = offer-leaves (lentBytes (w .images) i) frame (lentBytes (w .queues) q) answer h in
     record { same = put-same (w .images) i _ (x .0); still = put-same (w .queues) q _ (x .1) }

@@ -26,6 +26,9 @@ use Rattle.causality.specs.Demand3.{Step, sends, offers, delivers, BodiesOfByte
 use Rattle.causality.specs.Demand3.{IssueAt, Label, label, destination, Delivered, Held, heldAt, Earliest, Demand3For}
 use Rattle.causality.specs.ListRefusals.{ListRefusalsFor}
 use Rattle.causality.specs.AcceptedOnce.{AcceptedOnceFor}
+use Rattle.causality.specs.Rights.{RightsFor, Sendable}
+use Rattle.rights.specs.Ours.{MaySend}
+use Rattle.rights.specs.Topics.{groupOf}
 use Rattle.image.specs.Image.{SoundImage, recordIn}
 use Rattle.host.specs.Exports.{answerSize, SendLeft, OfferLeft, DeliverLeft, exportedSetUp, exportedSend, exportedOffer, exportedDeliver}
 
@@ -113,7 +116,7 @@ issueMade w i p answer (some g) = offerMade w i (offers i p) (exportedOffer (w .
 
 -- a step of a list of n nodes, lent `answer`; one at no node of the list, or an offer of what was not issued earlier, is no step
 unfoldable pub madeStep : ℕ → HostWorld → Step → List ℕ → HostWorld
-madeStep n w (sends i to body out) answer = cond (ltb i n) (sendMade w i (sends i to body out) (exportedSend (w .images i) to body out answer)) w
+madeStep n w (sends i to class body out) answer = cond (ltb i n) (sendMade w i (sends i to class body out) (exportedSend (w .images i) to class body out answer)) w
 madeStep n w (offers i p) answer = cond (ltb i n) (issueMade w i p answer (getElem? (w .log) p)) w
 madeStep n w (delivers i out body) answer =
     cond (ltb i n) (deliverMade w i (delivers i out body) (exportedDeliver (w .images i) (w .queues i) out body answer)) w
@@ -128,7 +131,7 @@ pub data Lent : Type 0 where
 -- set-up, send, offer or deliver with any numbers and any bytes
 pub data Stray : Type 0 where
   straySetUp : (image : Lent) (me n cap : ℕ) → Stray
-  straySend : (image : Lent) (to : ℕ) (body out answer : List ℕ) → Stray
+  straySend : (image : Lent) (to class : ℕ) (body out answer : List ℕ) → Stray
   strayOffer : (image : Lent) (frame : List ℕ) (queue : Lent) (answer : List ℕ) → Stray
   strayDeliver : (image queue : Lent) (out body answer : List ℕ) → Stray
 
@@ -152,8 +155,8 @@ abbrev pub strayLeft : HostWorld → Stray → StrayLeft
 strayLeft w (straySetUp i me n cap) =
     let c = exportedSetUp (lentBytes (w .images) i) me n cap in
     record { status = c .status; images = putBack (w .images) i (c .image); queues = w .queues }
-strayLeft w (straySend i to body out answer) =
-    let c = exportedSend (lentBytes (w .images) i) to body out answer in
+strayLeft w (straySend i to class body out answer) =
+    let c = exportedSend (lentBytes (w .images) i) to class body out answer in
     record { status = c .status; images = putBack (w .images) i (c .image); queues = w .queues }
 strayLeft w (strayOffer i frame q answer) =
     let c = exportedOffer (lentBytes (w .images) i) frame (lentBytes (w .queues) q) answer in
@@ -226,7 +229,7 @@ abbrev pub readDeliver : ℕ → List ℕ → DeliverAnswer
 readDeliver status a = cond (eqb status 0) (readDelivery a) (deliver.Refused status)
 
 abbrev pub readAnswer : Step → ℕ → List ℕ → Answer
-readAnswer (sends i to body out) status a = sent (readSend status a)
+readAnswer (sends i to class body out) status a = sent (readSend status a)
 readAnswer (offers i p) status a = offered (readOffer status)
 readAnswer (delivers i out body) status a = delivered (readDeliver status a)
 
@@ -252,8 +255,9 @@ pub record HostDelivers (w : HostWorld) (j : ℕ) : Type 0 where
 
 -- demand3: all that demand 3 says, of the world that the host sees
 -- accepts, delivers: what demand 3 promises of a next call, of the exported calls
+-- permits, forbids: a send that meets none of the other checks is not refused by a class that may send its body, and is with 21 by another
 -- images: no further call is refused with 20
--- refusals: with which numbers the steps can be refused; acceptedOnce: no frame is accepted twice
+-- refusals: with which numbers the steps can be refused; acceptedOnce: no frame is accepted twice; rights: who may say what
 pub record HostDemand3For (n cap : ℕ) (w : HostWorld) : Type 0 where
   pub demand3 : Demand3For n cap (seen w)
   pub accepts : (p : ℕ) (g : Issue) → Earliest (seen w) p g → ¬ Held (seen w) p (g .frame) → heldAt (seen w) (destination (g .frame)) < maxHeld
@@ -261,9 +265,14 @@ pub record HostDemand3For (n cap : ℕ) (w : HostWorld) : Type 0 where
       → exportedOffer (w .images (destination (g .frame))) (g .frame) (w .queues (destination (g .frame))) answer .status ≡ 0
   pub delivers : (p : ℕ) (g : Issue) → Earliest (seen w) p g → Held (seen w) p (g .frame) ⊎ (heldAt (seen w) (destination (g .frame)) ≡ maxHeld)
       → HostDelivers w (destination (g .frame))
+  pub permits : (i to class : ℕ) (body out answer : List ℕ) → Sendable n i to body out → answerSize ≤ length answer → MaySend class (groupOf body)
+      → exportedSend (w .images i) to class body out answer .status ≡ 0
+  pub forbids : (i to class : ℕ) (body out answer : List ℕ) → Sendable n i to body out → answerSize ≤ length answer → ¬ MaySend class (groupOf body)
+      → exportedSend (w .images i) to class body out answer .status ≡ 21
   pub images : (i : ℕ) → i < n → SoundImage (w .images i)
   pub refusals : ListRefusalsFor (seen w)
   pub acceptedOnce : AcceptedOnceFor (seen w)
+  pub rights : RightsFor n (seen w)
 
 -- for every n from 2 to 12, every cap from n to n * n, and every list of calls of a host that keeps what is asked of it
 abbrev pub HostDemand3 : Type 0

@@ -4,4 +4,5 @@ pub mod Sending
 pub mod Offering
 pub mod Delivering
 pub mod Taking
+pub mod Cases
 pub mod Told

@@ -3,6 +3,7 @@ use Prim.Native.Nat.{_*_, _+_, _-_, _<_, _≤_, suc, ℕ}
 use mathlib.Core.Bool.{Bool, _||_, cond, false, not, or-true, true}
 use mathlib.Core.List.{List, [], _∷_}
 use mathlib.Core.Path.{_∙_, _≡_, ap, refl, sym}
+use native.Mathlib.Decide.{ℕ-discrete}
 use native.Mathlib.Omega.{arith}
 use borrow.Author.Tests.{eq-eqb, le-ltb, lt-ltb, ne-eqb}
 use lib.Dec.{eqb, ltb, ltb→lt, nltb→le}
@@ -17,7 +18,7 @@ use Rattle.matrix.proofs.Cleared.{clear-limit, inside-clear, inside-entry}
 use Rattle.matrix.specs.Array.{entry, flat, vector}
 use Rattle.matrix.specs.Matrix.{Matrix, clear, count}
 use Rattle.matrix.specs.Message.{Message, number, userMessage}
-use Rattle.node.specs.Answers.{AfterSend, afterSend}
+use Rattle.node.specs.Answers.{AfterSend, afterSend, sendNumber}
 use Rattle.node.specs.Calls.{acceptSend, refusal, refuseSend, sendCall}
 use Rattle.node.specs.CallRefusals.{sendRefusal}
 use Rattle.node.specs.Record.{brokenRecord, nodeOf}
@@ -27,6 +28,8 @@ use Rattle.protocol.specs.Node.{Node, atLimit}
 use Rattle.protocol.specs.Send.{badDestination, longBody, send, sending}
 use Rattle.protocol.specs.Trim.{Trimmed, trimFor}
 use Rattle.protocol.specs.World.{start}
+use Rattle.rights.specs.Ours.{ours}
+use Rattle.rights.specs.Rights.{lacksRight}
 use Rattle.rules.proofs.Facts.{Unbroken, limit-row, unbroken}
 use Rattle.wire.proofs.Tests.{is-false, neqb→ne, not-not, or-not, skipped}
 use Rattle.wire.specs.Bytes.{put}
@@ -36,38 +39,57 @@ use Rattle.node.specs.declared.SendAnswer.the-variants as sendAnswer
 
 -- the checks in rising order give the refusal, and none of them an accepted send
 module _ (r : Record) (out : List ℕ) (d : Node) (s : Outcome) (a : accepted (s .answer) ≡ true) where
-  after : Outcome → AfterSend
-  after o = cond (accepted (o .answer)) (acceptSend r out o) (refuseSend (refusal (o .answer)) r out)
+  after : Bool → Outcome → AfterSend
+  after t o = cond (accepted (o .answer)) (cond t (refuseSend 21 r out) (acceptSend r out o)) (refuseSend (refusal (o .answer)) r out)
 
-  by-checks : (t₂ t₃ t₅ t₆ t₇ : Bool)
-      → cond t₂ (refuseSend 2 r out) (cond t₃ (refuseSend 3 r out) (after (cond t₅ (refuse 5 d) (cond t₆ (refuse 6 d) (cond t₇ (refuse 7 d) s)))))
-      ≡ cond (eqb (cond t₂ 2 (cond t₃ 3 (cond t₅ 5 (cond t₆ 6 (cond t₇ 7 0))))) 0) (acceptSend r out s)
-      (refuseSend (cond t₂ 2 (cond t₃ 3 (cond t₅ 5 (cond t₆ 6 (cond t₇ 7 0))))) r out)
-  unfolding after
-  by-checks true t₃ t₅ t₆ t₇ = refl
-  by-checks false true t₅ t₆ t₇ = refl
-  by-checks false false true t₆ t₇ = refl
-  by-checks false false false true t₇ = refl
-  by-checks false false false false true = refl
-  by-checks false false false false false = rw a
+  checked : (t₂ t₃ t₅ t₆ t₇ t₂₁ : Bool) → ℕ
+  checked t₂ t₃ t₅ t₆ t₇ t₂₁ = cond t₂ 2 (cond t₃ 3 (cond t₅ 5 (cond t₆ 6 (cond t₇ 7 (cond t₂₁ 21 0)))))
 
-pub send-by-refusal : (r : Record) (to : ℕ) (body out : List ℕ)
-    → sendCall r to body out
-    ≡ cond (eqb (sendRefusal r to (length body) (length out)) 0) (acceptSend r out (sending (nodeOf r []) to body))
-    (refuseSend (sendRefusal r to (length body) (length out)) r out)
-unfolding sendCall sendRefusal send after
-send-by-refusal r to body out =
+  by-checks : (t₂ t₃ t₅ t₆ t₇ t₂₁ : Bool)
+      → cond t₂ (refuseSend 2 r out) (cond t₃ (refuseSend 3 r out) (after t₂₁ (cond t₅ (refuse 5 d) (cond t₆ (refuse 6 d) (cond t₇ (refuse 7 d) s)))))
+      ≡ cond (eqb (checked t₂ t₃ t₅ t₆ t₇ t₂₁) 0) (acceptSend r out s) (refuseSend (checked t₂ t₃ t₅ t₆ t₇ t₂₁) r out)
+  unfolding after checked
+  by-checks true t₃ t₅ t₆ t₇ t₂₁ = refl
+  by-checks false true t₅ t₆ t₇ t₂₁ = refl
+  by-checks false false true t₆ t₇ t₂₁ = refl
+  by-checks false false false true t₇ t₂₁ = refl
+  by-checks false false false false true t₂₁ = refl
+  by-checks false false false false false true = rw a
+  by-checks false false false false false false = rw a
+
+pub send-by-refusal : (r : Record) (to class : ℕ) (body out : List ℕ)
+    → sendCall r to class body out
+    ≡ cond (eqb (sendRefusal r to class body (length out)) 0) (acceptSend r out (sending (nodeOf r []) to body))
+    (refuseSend (sendRefusal r to class body (length out)) r out)
+unfolding sendCall sendRefusal send after checked
+send-by-refusal r to class body out =
     by-checks r out (nodeOf r []) (sending (nodeOf r []) to body) refl (brokenRecord r) (ltb (length out) outSize) (atLimit (nodeOf r []))
-    (badDestination (nodeOf r []) to) (longBody body)
+    (badDestination (nodeOf r []) to) (longBody body) (lacksRight ours class body)
 
 -- a refused send, and an accepted one
-pub send-refused : (r : Record) (to : ℕ) (body out : List ℕ) (k : ℕ) → k ≡ sendRefusal r to (length body) (length out) → (k ≡ 0 → ⊥)
-    → refuseSend k r out ≡ sendCall r to body out
-send-refused r to body out k e h = sym (send-by-refusal r to body out ∙ rw (← e, ne-eqb k 0 h))
+pub send-refused : (r : Record) (to class : ℕ) (body out : List ℕ) (k : ℕ) → k ≡ sendRefusal r to class body (length out) → (k ≡ 0 → ⊥)
+    → refuseSend k r out ≡ sendCall r to class body out
+send-refused r to class body out k e h = sym (send-by-refusal r to class body out ∙ rw (← e, ne-eqb k 0 h))
 
-pub send-accepted : (r : Record) (to : ℕ) (body out : List ℕ) → sendRefusal r to (length body) (length out) ≡ 0
-    → acceptSend r out (sending (nodeOf r []) to body) ≡ sendCall r to body out
-send-accepted r to body out e = sym (send-by-refusal r to body out ∙ rw e)
+pub send-accepted : (r : Record) (to class : ℕ) (body out : List ℕ) → sendRefusal r to class body (length out) ≡ 0
+    → acceptSend r out (sending (nodeOf r []) to body) ≡ sendCall r to class body out
+send-accepted r to class body out e = sym (send-by-refusal r to class body out ∙ rw e)
+
+-- the number that a send answers with
+pub send-number : (r : Record) (to class : ℕ) (body out : List ℕ)
+    → sendNumber (sendCall r to class body out .result .answer) ≡ sendRefusal r to class body (length out)
+send-number r to class body out =
+    ap (λ (c : AfterSend). sendNumber (c .result .answer)) (send-by-refusal r to class body out) ∙ go (ℕ-discrete k 0)
+  where
+    k : ℕ
+    k = sendRefusal r to class body (length out)
+
+    answered : AfterSend
+    answered = cond (eqb k 0) (acceptSend r out (sending (nodeOf r []) to body)) (refuseSend k r out)
+
+    go : Dec (k ≡ 0) → sendNumber (answered .result .answer) ≡ k
+    go (yes z) = rw z refl
+    go (no h) = rw (ne-eqb k 0 h) refl
 
 -- what an accepted send leaves: the user frame, then the extra frames behind it, and the trimmed matrix
 module _ (r : Record) (to : ℕ) (body out : List ℕ) (lower : r .me < 12) (upper : to < 12) where
@@ -107,50 +129,53 @@ module _ (r : Record) (to : ℕ) (body out : List ℕ) (lower : r .me < 12) (upp
       }
 
 -- the checks of a send one after the other
-module _ (r : Record) (to body out : ℕ) where
-  pub send-2 : brokenRecord r ≡ true → sendRefusal r to body out ≡ 2
+module _ (r : Record) (to class : ℕ) (body : List ℕ) (out : ℕ) where
+  pub send-2 : brokenRecord r ≡ true → sendRefusal r to class body out ≡ 2
   unfolding sendRefusal
   send-2 a = rw a
 
-  pub send-3 : brokenRecord r ≡ false → out < outSize → sendRefusal r to body out ≡ 3
+  pub send-3 : brokenRecord r ≡ false → out < outSize → sendRefusal r to class body out ≡ 3
   unfolding sendRefusal
   send-3 a b = rw (a, lt-ltb out outSize b)
 
-  pub send-5 : brokenRecord r ≡ false → outSize ≤ out → atLimit (nodeOf r []) ≡ true → sendRefusal r to body out ≡ 5
+  pub send-5 : brokenRecord r ≡ false → outSize ≤ out → atLimit (nodeOf r []) ≡ true → sendRefusal r to class body out ≡ 5
   unfolding sendRefusal
   send-5 a b c = rw (a, le-ltb out outSize b, c)
 
-  pub send-6 : brokenRecord r ≡ false → outSize ≤ out → atLimit (nodeOf r []) ≡ false → badDestination (nodeOf r []) to ≡ true → sendRefusal r to body out ≡ 6
+  pub send-6 : brokenRecord r ≡ false → outSize ≤ out → atLimit (nodeOf r []) ≡ false → badDestination (nodeOf r []) to ≡ true → sendRefusal r to class body out ≡ 6
   unfolding sendRefusal
   send-6 a b c d = rw (a, le-ltb out outSize b, c, d)
 
   pub send-7 : brokenRecord r ≡ false → outSize ≤ out → atLimit (nodeOf r []) ≡ false → badDestination (nodeOf r []) to ≡ false
-      → maxBody < body → sendRefusal r to body out ≡ 7
+      → maxBody < length body → sendRefusal r to class body out ≡ 7
   unfolding sendRefusal
-  send-7 a b c d e = rw (a, le-ltb out outSize b, c, d, lt-ltb maxBody body e)
+  send-7 a b c d e = rw (a, le-ltb out outSize b, c, d, lt-ltb maxBody (length body) e)
 
-  pub send-0 : brokenRecord r ≡ false → outSize ≤ out → atLimit (nodeOf r []) ≡ false → badDestination (nodeOf r []) to ≡ false
-      → body ≤ maxBody → sendRefusal r to body out ≡ 0
+  -- the last one
+  pub send-last : brokenRecord r ≡ false → outSize ≤ out → atLimit (nodeOf r []) ≡ false → badDestination (nodeOf r []) to ≡ false
+      → length body ≤ maxBody → sendRefusal r to class body out ≡ cond (lacksRight ours class body) 21 0
   unfolding sendRefusal
-  send-0 a b c d e = rw (a, le-ltb out outSize b, c, d, le-ltb maxBody body e)
+  send-last a b c d e = rw (a, le-ltb out outSize b, c, d, le-ltb maxBody (length body) e)
 
 -- what a send that passed its checks knows
-pub record Sendable (r : Record) (to body out : ℕ) : Type 0 where
+pub record Sendable (r : Record) (to class : ℕ) (body : List ℕ) (out : ℕ) : Type 0 where
   pub sound : Unbroken (r .me) (r .n) (r .cap) (entry (r .m)) (vector (r .deliv)) (r .held)
   pub long : outSize ≤ out
   pub other : to ≡ r .me → ⊥
   pub destination : to < r .n
-  pub short : body ≤ maxBody
+  pub short : length body ≤ maxBody
+  pub allowed : lacksRight ours class body ≡ false
   pub below : (y : ℕ) → y < 12 → entry (r .m) (r .me) y < maxCount
 
-pub sendable : (r : Record) (to body out : ℕ) → sendRefusal r to body out ≡ 0 → Sendable r to body out
+pub sendable : (r : Record) (to class : ℕ) (body : List ℕ) (out : ℕ) → sendRefusal r to class body out ≡ 0 → Sendable r to class body out
 unfolding sendRefusal brokenRecord
-sendable r to body out e =
+sendable r to class body out e =
     let p = skipped (brokenRecord r) 2 _ (omega arith) e in
     let q = skipped (ltb out outSize) 3 _ (omega arith) (p .1) in
     let s = skipped (atLimit (nodeOf r [])) 5 _ (omega arith) (q .1) in
     let t = skipped (badDestination (nodeOf r []) to) 6 _ (omega arith) (s .1) in
-    let u = skipped (ltb maxBody body) 7 0 (omega arith) (t .1) in
+    let u = skipped (longBody body) 7 _ (omega arith) (t .1) in
+    let v = skipped (lacksRight ours class body) 21 0 (omega arith) (u .1) in
     let d = or-not (eqb to (r .me)) (not (ltb to (r .n))) (t .0) in
     let sound = unbroken (r .me) (r .n) (r .cap) (r .m) (vector (r .deliv)) (r .held) (is-false (brokenRecord r) (p .0)) in
     record {
@@ -158,7 +183,8 @@ sendable r to body out e =
       long = nltb→le out outSize (q .0);
       other = neqb→ne to (r .me) (d .0);
       destination = ltb→lt to (r .n) (not-not (ltb to (r .n)) (d .1));
-      short = nltb→le maxBody body (u .0);
+      short = nltb→le maxBody (length body) (u .0);
+      allowed = is-false (lacksRight ours class body) (v .0);
       below = limit-row (nodeOf r []) (s .0) (sound .limit);
     }
 
@@ -180,6 +206,6 @@ cleared-limit r to m₁ h k l b e x y =
     (clear-limit (r .me) to maxCount (entry (r .m)) l b x y)
 
 -- a sound record's matrix has at most 121 entries
-pub frame-room : {r : Record} {to body out : ℕ} → Sendable r to body out → count (entry (r .m)) ≤ 121
+pub frame-room : {r : Record} {to class : ℕ} {body : List ℕ} {out : ℕ} → Sendable r to class body out → count (entry (r .m)) ≤ 121
 frame-room {r} k =
     count-121 (r .me) (entry (r .m)) (omega (arith, k .sound .range .below, k .sound .range .atMost12)) (k .sound .rules .diagonal) (k .sound .rules .own)

@@ -27,16 +27,18 @@ use Rattle.protocol.specs.Answer.{delivery}
 use Rattle.protocol.specs.Deliver.{Search, conclude, learn}
 use Rattle.protocol.specs.Node.{Node}
 use Rattle.protocol.specs.Offer.{deliverable}
+use Rattle.protocol.specs.Send.{sending}
 use Rattle.protocol.specs.Trim.{trimFor}
 use Rattle.trim.proofs.Bounds.{trim-1008}
-use Rattle.node.proofs.Sending.{frame-room, send-accepted, send-refused, sendable}
-use Rattle.node.proofs.Offering.{length-messages, offer-accepted, offer-refused, offerable}
-use Rattle.node.proofs.Delivering.{Ready, deliver-accepted, deliver-ready, deliver-refused, searched}
+use Rattle.node.proofs.Cases.{deliver-cases, offer-cases, send-cases}
+use Rattle.node.proofs.Sending.{frame-room, sendable}
+use Rattle.node.proofs.Offering.{length-messages, offerable}
+use Rattle.node.proofs.Delivering.{Ready, deliver-ready, searched}
 use Rattle.node.proofs.Taking.{bodied, entries-limit, from-below}
 use Rattle.node.specs.Answers.{AfterSend, AfterOffer, AfterDeliver}
-use Rattle.node.specs.Calls.{acceptDeliver, deliverCall, offerCall, sendCall}
-use Rattle.node.specs.CallRefusals.{deliverRefusal, offerRefusal, sendRefusal, shortOutputs}
-use Rattle.node.specs.Record.{nodeAt}
+use Rattle.node.specs.Calls.{acceptDeliver, acceptSend, deliverCall, offerCall, sendCall}
+use Rattle.node.specs.CallRefusals.{sendRefusal}
+use Rattle.node.specs.Record.{nodeAt, nodeOf}
 use Rattle.node.specs.declared.Node.{Node as Record}
 use Rattle.node.specs.declared.Delivered.{Delivered}
 use Rattle.node.specs.declared.SendAnswer.{SendAnswer}
@@ -67,30 +69,26 @@ abbrev pub SendTold : List ℕ → SendAnswer → AfterSend → Type 0
 SendTold out (sendAnswer.Refused k) c = Unit {0}
 SendTold out (sendAnswer.Sent bytes extras) c = SentFacts out (c .out) bytes extras
 
-module _ (r : Record) (to : ℕ) (body out : List ℕ) where
-  abbrev sent : AfterSend → Type 0
-  sent c = SendTold out (c .result .answer) c
-
-  pub send-told : SendTold out (sendCall r to body out .result .answer) (sendCall r to body out)
-  send-told = go (ℕ-discrete (sendRefusal r to (length body) (length out)) 0)
-    where
-      go : Dec (sendRefusal r to (length body) (length out) ≡ 0) → sent (sendCall r to body out)
-      go (yes z) =
-          let m = entry (r .m) in
-          let first : Message = userMessage (r .me) to (r .n) (r .cap) m body in
-          let others : List Message = trimFor 12 (r .me) (r .n) (r .cap) (clear (r .me) to m) .extras in
-          let k = sendable r to (length body) (length out) z in
-          let most : length (framesOf (first ∷ others)) ≤ 1810
-          = omega (arith, length-frames first others, length-encode first, frame-room k, k .short, trim-1008 (r .me) (r .n) (r .cap) (clear (r .me) to m)) in
-          subst sent (send-accepted r to body out z)
-          record {
-            issued = first ∷ others;
-            wrote = record { frames = refl; size = refl; inside = omega (arith, most, length-put out 0 (framesOf (first ∷ others)), k .long) };
-            many = omega arith;
-            few = omega (arith, trim-few 12 (r .me) (r .n) (r .cap) (clear (r .me) to m));
-            most = most;
-          }
-      go (no h) = subst sent (send-refused r to body out (sendRefusal r to (length body) (length out)) refl h) tt
+pub send-told : (r : Record) (to class : ℕ) (body out : List ℕ)
+    → SendTold out (sendCall r to class body out .result .answer) (sendCall r to class body out)
+send-told r to class body out = send-cases (λ (c : AfterSend). SendTold out (c .result .answer) c) r to class body out (λ k h. tt) accepted
+  where
+    accepted : sendRefusal r to class body (length out) ≡ 0
+        → (let c = acceptSend r out (sending (nodeOf r []) to body) in SendTold out (c .result .answer) c)
+    accepted z =
+        let m = entry (r .m) in
+        let first : Message = userMessage (r .me) to (r .n) (r .cap) m body in
+        let others : List Message = trimFor 12 (r .me) (r .n) (r .cap) (clear (r .me) to m) .extras in
+        let k = sendable r to class body (length out) z in
+        let most : length (framesOf (first ∷ others)) ≤ 1810
+        = omega (arith, length-frames first others, length-encode first, frame-room k, k .short, trim-1008 (r .me) (r .n) (r .cap) (clear (r .me) to m)) in
+        record {
+          issued = first ∷ others;
+          wrote = record { frames = refl; size = refl; inside = omega (arith, most, length-put out 0 (framesOf (first ∷ others)), k .long) };
+          many = omega arith;
+          few = omega (arith, trim-few 12 (r .me) (r .n) (r .cap) (clear (r .me) to m));
+          most = most;
+        }
 
 -- ---- offer
 
@@ -99,18 +97,10 @@ abbrev pub OfferTold : List ℕ → OfferAnswer → AfterOffer → Type 0
 OfferTold q (offerAnswer.Refused k) c = c .queue ≡ q
 OfferTold q (offerAnswer.Held count ready) c = count ≤ 16
 
-module _ (r : Record) (s q : List ℕ) where
-  abbrev offered : AfterOffer → Type 0
-  offered c = OfferTold q (c .result .answer) c
-
-  pub offer-told : OfferTold q (offerCall r s q .result .answer) (offerCall r s q)
-  offer-told = go (ℕ-discrete (offerRefusal r s q) 0)
-    where
-      go : Dec (offerRefusal r s q ≡ 0) → offered (offerCall r s q)
-      go (yes z) =
-          subst offered (offer-accepted r s q z)
-          (omega (arith, length-append (heldMessages (r .held) q) (decode s ∷ []), length-messages (r .held) q, offerable r s q z .holdable .room))
-      go (no h) = subst offered (offer-refused r s q (offerRefusal r s q) refl h) refl
+pub offer-told : (r : Record) (s q : List ℕ) → OfferTold q (offerCall r s q .result .answer) (offerCall r s q)
+offer-told r s q =
+    offer-cases (λ (c : AfterOffer). OfferTold q (c .result .answer) c) r s q (λ k h. refl)
+    (λ z. omega (arith, length-append (heldMessages (r .held) q) (decode s ∷ []), length-messages (r .held) q, offerable r s q z .holdable .room))
 
 -- ---- deliver
 
@@ -192,8 +182,4 @@ module _ (r : Record) (q out body : List ℕ) where
           }
 
   pub deliver-told : DeliverTold r q out (deliverCall r q out body .result .answer) (deliverCall r q out body)
-  deliver-told = go (ℕ-discrete (deliverRefusal r q (shortOutputs (length out) (length body))) 0)
-    where
-      go : Dec (deliverRefusal r q (shortOutputs (length out) (length body)) ≡ 0) → given (deliverCall r q out body)
-      go (yes z) = subst given (deliver-accepted r q out body z) (by-search (deliver-ready r q (length out) (length body) z))
-      go (no h) = subst given (deliver-refused r q out body (deliverRefusal r q (shortOutputs (length out) (length body))) refl h) refl
+  deliver-told = deliver-cases given r q out body (λ k h. refl) (λ z. by-search (deliver-ready r q (length out) (length body) z))

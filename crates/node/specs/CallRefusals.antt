@@ -10,27 +10,31 @@ use Rattle.matrix.specs.Message.{Message}
 use Rattle.frame.specs.Frame.{decode}
 use Rattle.frame.specs.Refusals.{frameRefusal}
 use Rattle.protocol.specs.Node.{Node, atLimit}
-use Rattle.protocol.specs.Send.{badDestination}
+use Rattle.protocol.specs.Send.{badDestination, longBody}
 use Rattle.protocol.specs.Offer.{notForMe, claimsTooMuch, deliveredBefore, heldAlready, noRoom, deliverable}
 use Rattle.protocol.specs.Deliver.{search}
 use Rattle.holdback.specs.Places.{placeOf}
 use Rattle.holdback.specs.Slots.{queueSize, heldMessages}
 use Rattle.holdback.specs.WrongQueue.{wrongQueue}
+use Rattle.rights.specs.Ours.{ours}
+use Rattle.rights.specs.Rights.{lacksRight}
 use Rattle.node.specs.declared.Node.{Node as Record}
 use Rattle.node.specs.Sizes.{outSize}
 use Rattle.node.specs.Record.{brokenRecord, nodeAt, nodeOf}
 
--- send: 2, 3, 5, 6, 7, for a body and a frame output of these lengths
-unfoldable pub sendRefusal : Record → ℕ → ℕ → ℕ → ℕ
-sendRefusal r to body out =
-    cond (brokenRecord r) 2 (cond (ltb out outSize) 3 (cond (atLimit (nodeOf r [])) 5 (cond (badDestination (nodeOf r []) to) 6 (cond (ltb maxBody body) 7 0))))
+-- send: 2, 3, 5, 6, 7, 21, for a frame output of this length
+unfoldable pub sendRefusal : Record → (to class : ℕ) (body : List ℕ) (out : ℕ) → ℕ
+sendRefusal r to class body out =
+    cond (brokenRecord r) 2 (cond (ltb out outSize) 3
+    (cond (atLimit (nodeOf r [])) 5 (cond (badDestination (nodeOf r []) to) 6 (cond (longBody body) 7 (cond (lacksRight ours class body) 21 0)))))
 
--- a send at a node with this me, n, cap and matrix meets no check
-pub record SendPasses (me n cap : ℕ) (m : List ℕ) (to body out : ℕ) : Type 0 where
+-- a send at a node with this me, n, cap and matrix, of this body by some class, meets no check
+pub record SendPasses (me n cap : ℕ) (m : List ℕ) (to : ℕ) (body : List ℕ) (out : ℕ) : Type 0 where
   pub deliv : List ℕ
   pub held : ℕ
+  pub class : ℕ
   pub cells : length m ≡ 144
-  pub passes : sendRefusal (record { me = me; n = n; cap = cap; m = m; deliv = deliv; held = held }) to body out ≡ 0
+  pub passes : sendRefusal (record { me = me; n = n; cap = cap; m = m; deliv = deliv; held = held }) to class body out ≡ 0
 
 -- the protocol's refusals of an offer: 12 to 16
 unfoldable pub holdRefusal : Node → Message → ℕ

@@ -20,6 +20,8 @@ use Rattle.protocol.specs.Offer.{offer}
 use Rattle.protocol.specs.Deliver.{deliver}
 use Rattle.holdback.specs.Slots.{queueSize, laid, heldFrames, heldMessages, without}
 use Rattle.holdback.specs.WrongQueue.{wrongQueue}
+use Rattle.rights.specs.Ours.{ours}
+use Rattle.rights.specs.Rights.{lacksRight}
 use Rattle.node.specs.declared.Node.{Node as Record}
 use Rattle.node.specs.declared.SendAnswer.the-variants as sendAnswer
 use Rattle.node.specs.declared.OfferAnswer.the-variants as offerAnswer
@@ -77,13 +79,17 @@ acceptSend r out o =
     })
     (put out 0 (framesOf l))
 
--- send: checks 2, 3 and then the protocol's 5 to 7
-unfoldable pub sendCall : Record → ℕ → List ℕ → List ℕ → AfterSend
-sendCall r to body out =
+-- a send that the protocol accepts: 21 by our table of rights, which is the last check
+abbrev pub permitSend : Record → (class : ℕ) (body out : List ℕ) → Outcome → AfterSend
+permitSend r class body out o = cond (lacksRight ours class body) (refuseSend 21 r out) (acceptSend r out o)
+
+-- send, to a node, by a class: checks 2, 3, then the protocol's 5 to 7, and then 21
+unfoldable pub sendCall : Record → (to class : ℕ) (body out : List ℕ) → AfterSend
+sendCall r to class body out =
     let o : Outcome = send (nodeOf r []) to body in
     cond (brokenRecord r) (refuseSend 2 r out)
     (cond (ltb (length out) outSize) (refuseSend 3 r out)
-    (cond (accepted (o .answer)) (acceptSend r out o) (refuseSend (refusal (o .answer)) r out)))
+    (cond (accepted (o .answer)) (permitSend r class body out o) (refuseSend (refusal (o .answer)) r out)))
 
 -- ---- offer
 

@@ -24,11 +24,13 @@ pub fn refusal<'a>(
     deliv: &'a [u32; 12],
     held: u8,
     to: usize,
-    body: usize,
+    class: usize,
+    body: &'a [u8],
     out: usize,
 ) -> u8
     requires { ⌜ (length (now m) ≡ 144) × (length (now deliv) ≡ 12) ⌝ }
-    ensures { λ r. ⌜ r ≡ sendRefusal (record { me = me; n = n; cap = cap; m = now (m .entry); deliv = now (deliv .entry); held = held }) to body out ⌝ }
+    ensures { λ r. ⌜ r ≡ sendRefusal (record { me = me; n = n; cap = cap; m = now (m .entry); deliv = now (deliv .entry); held = held }) to class (now
+        (body .entry)) out ⌝ }
 {
     if rules::broken(me, n, cap, m, deliv, held) {
         return 2;
@@ -45,8 +47,11 @@ pub fn refusal<'a>(
     if n as usize <= to {
         return 6;
     }
-    if wire::MAX_BODY < body {
+    if wire::MAX_BODY < body.len() {
         return 7;
+    }
+    if rights::lacks_right(&rights::OURS, class, body) {
+        return 21;
     }
     0
 }
@@ -61,7 +66,7 @@ pub fn issue(
     body: &[u8],
     out: &mut [u8],
 ) -> Issued
-    requires { ⌜ SendPasses me n cap (now m) to (length (now body)) (length (now out)) ⌝ }
+    requires { ⌜ SendPasses me n cap (now m) to (now body) (length (now out)) ⌝ }
     ensures { λ r. ⌜ ((v : List ℕ) (held : ℕ)
         → afterSend (record {
           answer = sent (r .at) (r .extras);
@@ -82,16 +87,26 @@ pub fn issue(
 }
 
 impl Node {
-    /// Sends a body to node `to`: writes the user frame and then trim's extra frames into `out`, and gives the new record.
-    pub fn send(mut self, to: usize, body: &[u8], out: &mut [u8]) -> Sent
-        ensures { λ r. ⌜ afterSend r (now (out .exit)) ≡ sendCall self to (now (body .entry)) (now (out .entry)) ⌝ }
+    /// Sends a body to node `to`, as a node of this class: writes the user frame and then trim's extra frames into `out`, and gives the new record.
+    pub fn send(mut self, to: usize, class: usize, body: &[u8], out: &mut [u8]) -> Sent
+        ensures { λ r. ⌜ afterSend r (now (out .exit)) ≡ sendCall self to class (now (body .entry)) (now (out .entry)) ⌝ }
     {
         let me = self.me;
         let n = self.n;
         let cap = self.cap;
-        let size = body.len();
         let room = out.len();
-        let why = refusal(me, n, cap, &self.m, &self.deliv, self.held, to, size, room);
+        let why = refusal(
+            me,
+            n,
+            cap,
+            &self.m,
+            &self.deliv,
+            self.held,
+            to,
+            class,
+            body,
+            room,
+        );
         if why != 0 {
             let answer = SendAnswer::Refused(why);
             return Sent { answer, node: self };

@@ -19,6 +19,7 @@ pub mod Bounds
 pub mod Taking
 pub mod Runs
 pub mod Accepting
+pub mod Senders
 pub mod Liveness
 pub mod Demand3
 pub mod Examples

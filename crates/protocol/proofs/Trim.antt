@@ -1,19 +1,21 @@
--- Trim: twelve rounds are enough, it ends within the cap, and it issues at most one message to each destination, one in a round.
+-- Trim: twelve rounds are enough, it ends within the cap, and it issues at most one message to each destination, one in a round; what it issues is extra.
 use Prim.Native.Nat.{ℕ, zero, suc, _≤_, _<_}
 use mathlib.Core.Bool.{not, cond}
 use mathlib.Core.List.{List, [], _∷_}
 use mathlib.Core.Logic.{_⊎_, inl, inr, _≢_}
-use mathlib.Core.Path.{_≡_, refl, sym, ap, _∙_}
+use mathlib.Core.Option.{some}
+use mathlib.Core.Path.{_≡_, refl, sym, subst, ap, _∙_}
 use native.Mathlib.Decide.{ℕ-discrete, decLe}
 use native.Mathlib.Omega.{arith}
 use lib.Dec.{T, leb, leb→le, le→leb, nleb→lt}
-use lib.ListN.{length}
+use lib.ListN.{getElem?, length}
 use Rattle.matrix.proofs.Columns.{MatrixRules, fullest-lt, fullest-two, two-below, two-other, clear-rules, clear-one}
 use Rattle.matrix.proofs.Columns.{clear-same, crowded, crowded-le, crowded-down, crowded-some}
 use Rattle.matrix.proofs.Cleared.{clear-lower, clear-row}
 use Rattle.matrix.proofs.Matrix.{clear-mine, clear-keep}
 use Rattle.matrix.specs.Matrix.{Matrix, columnCount, count, fullest, clear}
-use Rattle.matrix.specs.Message.{Message, extraMessage}
+use Rattle.matrix.specs.Message.{Message, extra, extraMessage}
+use Rattle.protocol.proofs.Lists.{at-none}
 use Rattle.protocol.specs.Trim.{Trimmed, untouched, issuing, trimFor}
 use Rattle.wire.proofs.Tests.{decide, cond-elim, cond-yes}
 
@@ -137,3 +139,27 @@ trim-few (suc k) me n cap m =
     (issuing (extraMessage me (fullest m) n cap m) (trimFor k me n cap (clear me (fullest m) m)))
     (λ _. omega arith)
     (λ _. omega (arith, trim-few k me n cap (clear me (fullest m) m)))
+
+-- what holds of every extra message holds of each that trim issues
+trim-each : (P : Message → Type 0) → ((me l n cap : ℕ) (m : Matrix) → P (extraMessage me l n cap m)) → (k me n cap : ℕ) (m : Matrix) (p : ℕ) (f : Message)
+    → getElem? ((trimFor k me n cap m) .extras) p ≡ some f → P f
+unfolding trimFor
+trim-each P h zero me n cap m p f e = absurd (at-none p f e)
+trim-each P h (suc k) me n cap m p f e =
+    cond-elim (λ (t : Trimmed). getElem? (t .extras) p ≡ some f → P f) (leb (count m) cap) (untouched m)
+    (issuing (extraMessage me (fullest m) n cap m) rest)
+    (λ _ e. absurd (at-none p f e)) (λ _. go p (λ q. trim-each P h k me n cap (clear me (fullest m) m) q f)) e
+  where
+    rest : Trimmed
+    rest = trimFor k me n cap (clear me (fullest m) m)
+
+    go : (p : ℕ) → ((q : ℕ) → getElem? (rest .extras) q ≡ some f → P f) → getElem? (extraMessage me (fullest m) n cap m ∷ rest .extras) p ≡ some f → P f
+    go zero ih e = let z : extraMessage me (fullest m) n cap m ≡ f = cc in subst P z (h me (fullest m) n cap m)
+    go (suc p) ih e = ih p e
+
+-- its kind, and that it has no body
+pub trim-kind : (k me n cap : ℕ) (m : Matrix) (p : ℕ) (f : Message) → getElem? ((trimFor k me n cap m) .extras) p ≡ some f → f .kind ≡ extra
+trim-kind = trim-each (λ (f : Message). f .kind ≡ extra) (λ me l n cap m. refl)
+
+pub trim-bare : (k me n cap : ℕ) (m : Matrix) (p : ℕ) (f : Message) → getElem? ((trimFor k me n cap m) .extras) p ≡ some f → f .body ≡ []
+trim-bare = trim-each (λ (f : Message). f .body ≡ []) (λ me l n cap m. refl)

@@ -118,26 +118,26 @@ set-up-says me n cap =
 sent-not : (bytes extras k : ℕ) → ¬ (sendAnswer.Sent bytes extras ≡ sendAnswer.Refused k)
 sent-not bytes extras k e = let z : _≡_ {A = ℕ} 0 1 = cc in absurd (omega arith)
 
-send-by : (r : Record) (to : ℕ) (body out : List ℕ)
-    → sendCall r to body out ≡ cond (eqb (firstMet (sendChecks r to body out)) 0) (acceptSend r out (sending (nodeOf r []) to body))
-    (refuseSend (firstMet (sendChecks r to body out)) r out)
+send-by : (r : Record) (to class : ℕ) (body out : List ℕ)
+    → sendCall r to class body out ≡ cond (eqb (firstMet (sendChecks r to class body out)) 0) (acceptSend r out (sending (nodeOf r []) to body))
+    (refuseSend (firstMet (sendChecks r to class body out)) r out)
 unfolding sendRefusal
-send-by r to body out = send-by-refusal r to body out
+send-by r to class body out = send-by-refusal r to class body out
 
-send-says : (r : Record) (to : ℕ) (body out : List ℕ) → SendSays r to body out (sendCall r to body out)
-send-says r to body out =
-    let l = sendChecks r to body out in
-    let c = sendCall r to body out in
+send-says : (r : Record) (to class : ℕ) (body out : List ℕ) → SendSays r to class body out (sendCall r to class body out)
+send-says r to class body out =
+    let l = sendChecks r to class body out in
+    let c = sendCall r to class body out in
     let x = acceptSend r out (sending (nodeOf r []) to body) in
     let g : ℕ → AfterSend = λ k. refuseSend k r out in
     let left : ¬ (sendNumber (c .result .answer) ≡ 0) → c ≡ g (firstMet l)
-    = refused (λ (s : AfterSend). sendNumber (s .result .answer)) c (firstMet l) x g (send-by r to body out) refl in
+    = refused (λ (s : AfterSend). sendNumber (s .result .answer)) c (firstMet l) x g (send-by r to class body out) refl in
     record {
       numbers = refl;
       rising = omega arith;
       answers =
           by-first sendAnswer.Refused sendNumber l (x .result .answer) (c .result .answer) (omega arith)
-          (part (λ (s : AfterSend). s .result .answer) c (firstMet l) x g (send-by r to body out)) (λ k. refl) refl (sent-not _ _);
+          (part (λ (s : AfterSend). s .result .answer) c (firstMet l) x g (send-by r to class body out)) (λ k. refl) refl (sent-not _ _);
       same = λ h. (ap (λ (s : AfterSend). s .result .node) (left h), ap (λ (s : AfterSend). s .out) (left h));
     }
 
@@ -382,7 +382,7 @@ demand1 =
       offer = offer-says;
       deliver = deliver-says;
       hostSetUp = host-set-up-says;
-      hostSend = λ i to body out answer. host-send-says i to body out answer (send-says (recordIn i) to body out);
+      hostSend = λ i to class body out answer. host-send-says i to class body out answer (send-says (recordIn i) to class body out);
       hostOffer = λ i s q answer. host-offer-says i s q answer (offer-says (recordIn i) s q);
       hostDeliver = λ i q out body answer. host-deliver-says i q out body answer (deliver-says (recordIn i) q out body);
       load = load-says;

@@ -26,12 +26,12 @@ unfolding exportedSetUp setUp inRange
 length-alone = refl
 
 -- send: the image is looked at before the buffers
-image-first : exportedSend (replicate 632 0) 1 [] [] [] .status ≡ 20
+image-first : exportedSend (replicate 632 0) 1 0 [] [] [] .status ≡ 20
 unfolding exportedSend badImage hasTrailer countBack u16At
 image-first = refl
 
 -- and a fresh one is sound, so that the buffers are
-buffers-next : exportedSend (image (freshRecord 0 2 4)) 1 [] [] [] .status ≡ 3
+buffers-next : exportedSend (image (freshRecord 0 2 4)) 1 0 [] [] [] .status ≡ 3
 unfolding exportedSend badImage image sealed recordFields fields le16 le32 hasTrailer countBack sumBack checksum counted total trailer u16At u32At
     recordIn numbersAt brokenRecord brokenRules inRange withinLimit zeroColumn zeroDiagonal zeroFrom columnCount count entry
 buffers-next = refl

@@ -76,25 +76,25 @@ module _ (i : List ℕ) (me n cap : ℕ) where
       }
 
 -- ---- send
-module _ (i : List ℕ) (to : ℕ) (body out answer : List ℕ) where
+module _ (i : List ℕ) (to class : ℕ) (body out answer : List ℕ) where
   send-number : (c : AfterSend) (a : SendAnswer) → sendTold i answer c a .status ≡ sendNumber a
   send-number c (sendAnswer.Refused k) = refl
   send-number c (sendAnswer.Sent bytes extras) = refl
 
-  pub host-send-says : SendSays (recordIn i) to body out (sendCall (recordIn i) to body out)
-      → HostSendSays i to body out answer (exportedSend i to body out answer)
+  pub host-send-says : SendSays (recordIn i) to class body out (sendCall (recordIn i) to class body out)
+      → HostSendSays i to class body out answer (exportedSend i to class body out answer)
   unfolding exportedSend
   host-send-says says =
       let r = recordIn i in
-      let c = sendCall r to body out in
+      let c = sendCall r to class body out in
       let short = ltb (length answer) answerSize in
       record {
         numbers = refl;
         numbered =
-            by-number (hostSendChecks i to body out answer) (exportedSend i to body out answer .status) (omega arith)
-            (status-of (λ (l : SendLeft). l .status) (badImage i) short (brokenRecord r) (ltb (length out) outSize) (firstMet (sendRest r to body))
+            by-number (hostSendChecks i to class body out answer) (exportedSend i to class body out answer .status) (omega arith)
+            (status-of (λ (l : SendLeft). l .status) (badImage i) short (brokenRecord r) (ltb (length out) outSize) (firstMet (sendRest r to class body))
             (good-record i) refl refl (send-number c (c .result .answer) ∙ says .answers .numbered .first));
-        same = send-leaves i to body out answer;
+        same = send-leaves i to class body out answer;
       }
 
 -- ---- offer

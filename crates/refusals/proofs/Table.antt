@@ -16,6 +16,9 @@ use Rattle.holdback.specs.Slots.{frameIn, heldFrames, laid, padded, slots, with
 use Rattle.matrix.specs.Array.{entry, flat}
 use Rattle.matrix.specs.Matrix.{Matrix, clear, columnCount, count, fullest, merge, only, single}
 use Rattle.node.specs.Answers.{AfterDeliver, AfterOffer, afterDeliver, afterOffer}
+use Rattle.rights.specs.Ours.{ours}
+use Rattle.rights.specs.Rights.{lacksRight}
+use Rattle.rights.specs.Topics.{group}
 use Rattle.node.specs.Calls.{deliverCall, offerCall, sendCall}
 use Rattle.node.specs.Record.{brokenRecord}
 use Rattle.node.specs.SetUp.{setUp}
@@ -79,7 +82,7 @@ twice =
     (2 ∷ 0 ∷ 1 ∷ 2 ∷ 0 ∷ 3 ∷ 3 ∷ 0 ∷ 0 ∷ 1 ∷ 1 ∷ 0 ∷ 0 ∷ 0 ∷ 2 ∷ 1 ∷ 1 ∷ 0 ∷ 0 ∷ 0 ∷ 20 ∷ 0 ∷ 37 ∷ 0 ∷ replicate 2024 0) text
 
 is-sent : sent₀ ≡ sent
-unfolding setUp inRange sendCall offerCall deliverCall brokenRecord brokenRules zeroDiagonal zeroColumn withinLimit zeroFrom count columnCount flat entry single
+unfolding ours lacksRight group setUp inRange sendCall offerCall deliverCall brokenRecord brokenRules zeroDiagonal zeroColumn withinLimit zeroFrom count columnCount flat entry single
     atLimit protocolSend.send protocolOffer.offer protocolDeliver.deliver deliverable trimFor fullest clear only merge framesOf encode sealed front headerBytes
     headerOf header ownLength entriesBytes entryBytes entriesOf listed placed entriesFrom entryAt matrixOf le16 le32 u16At u32At bytes.put trailer
     trailers.counted checksum total decode wrongQueue sameBytes heldRefused someRefused someAlike arrivalRefusal frameRefusal wrongTrailer hasTrailer countBack
@@ -88,7 +91,7 @@ unfolding setUp inRange sendCall offerCall deliverCall brokenRecord brokenRules 
 is-sent = refl
 
 is-early : from₁ ≡ early
-unfolding setUp inRange sendCall offerCall deliverCall brokenRecord brokenRules zeroDiagonal zeroColumn withinLimit zeroFrom count columnCount flat entry single
+unfolding ours lacksRight group setUp inRange sendCall offerCall deliverCall brokenRecord brokenRules zeroDiagonal zeroColumn withinLimit zeroFrom count columnCount flat entry single
     atLimit protocolSend.send protocolOffer.offer protocolDeliver.deliver deliverable trimFor fullest clear only merge framesOf encode sealed front headerBytes
     headerOf header ownLength entriesBytes entryBytes entriesOf listed placed entriesFrom entryAt matrixOf le16 le32 u16At u32At bytes.put trailer
     trailers.counted checksum total decode wrongQueue sameBytes heldRefused someRefused someAlike arrivalRefusal frameRefusal wrongTrailer hasTrailer countBack
@@ -97,7 +100,7 @@ unfolding setUp inRange sendCall offerCall deliverCall brokenRecord brokenRules 
 is-early = refl
 
 is-still : from₂ ≡ still
-unfolding setUp inRange sendCall offerCall deliverCall brokenRecord brokenRules zeroDiagonal zeroColumn withinLimit zeroFrom count columnCount flat entry single
+unfolding ours lacksRight group setUp inRange sendCall offerCall deliverCall brokenRecord brokenRules zeroDiagonal zeroColumn withinLimit zeroFrom count columnCount flat entry single
     atLimit protocolSend.send protocolOffer.offer protocolDeliver.deliver deliverable trimFor fullest clear only merge framesOf encode sealed front headerBytes
     headerOf header ownLength entriesBytes entryBytes entriesOf listed placed entriesFrom entryAt matrixOf le16 le32 u16At u32At bytes.put trailer
     trailers.counted checksum total decode wrongQueue sameBytes heldRefused someRefused someAlike arrivalRefusal frameRefusal wrongTrailer hasTrailer countBack
@@ -106,7 +109,7 @@ unfolding setUp inRange sendCall offerCall deliverCall brokenRecord brokenRules 
 is-still = refl
 
 offer-early : offerCall sent early empty ≡ one
-unfolding setUp inRange sendCall offerCall deliverCall brokenRecord brokenRules zeroDiagonal zeroColumn withinLimit zeroFrom count columnCount flat entry single
+unfolding ours lacksRight group setUp inRange sendCall offerCall deliverCall brokenRecord brokenRules zeroDiagonal zeroColumn withinLimit zeroFrom count columnCount flat entry single
     atLimit protocolSend.send protocolOffer.offer protocolDeliver.deliver deliverable trimFor fullest clear only merge framesOf encode sealed front headerBytes
     headerOf header ownLength entriesBytes entryBytes entriesOf listed placed entriesFrom entryAt matrixOf le16 le32 u16At u32At bytes.put trailer
     trailers.counted checksum total decode wrongQueue sameBytes heldRefused someRefused someAlike arrivalRefusal frameRefusal wrongTrailer hasTrailer countBack
@@ -114,7 +117,7 @@ unfolding setUp inRange sendCall offerCall deliverCall brokenRecord brokenRules 
 offer-early = refl
 
 then-offer-still : thenOffers one still ≡ two
-unfolding setUp inRange sendCall offerCall deliverCall brokenRecord brokenRules zeroDiagonal zeroColumn withinLimit zeroFrom count columnCount flat entry single
+unfolding ours lacksRight group setUp inRange sendCall offerCall deliverCall brokenRecord brokenRules zeroDiagonal zeroColumn withinLimit zeroFrom count columnCount flat entry single
     atLimit protocolSend.send protocolOffer.offer protocolDeliver.deliver deliverable trimFor fullest clear only merge framesOf encode sealed front headerBytes
     headerOf header ownLength entriesBytes entryBytes entriesOf listed placed entriesFrom entryAt matrixOf le16 le32 u16At u32At bytes.put trailer
     trailers.counted checksum total decode wrongQueue sameBytes heldRefused someRefused someAlike arrivalRefusal frameRefusal wrongTrailer hasTrailer countBack
@@ -131,7 +134,7 @@ is-two =
     ∙ then-offer-still
 
 then-once : thenDelivers two ≡ once
-unfolding setUp inRange sendCall offerCall deliverCall brokenRecord brokenRules zeroDiagonal zeroColumn withinLimit zeroFrom count columnCount flat entry single
+unfolding ours lacksRight group setUp inRange sendCall offerCall deliverCall brokenRecord brokenRules zeroDiagonal zeroColumn withinLimit zeroFrom count columnCount flat entry single
     atLimit protocolSend.send protocolOffer.offer protocolDeliver.deliver deliverable trimFor fullest clear only merge framesOf encode sealed front headerBytes
     headerOf header ownLength entriesBytes entryBytes entriesOf listed placed entriesFrom entryAt matrixOf le16 le32 u16At u32At bytes.put trailer
     trailers.counted checksum total decode wrongQueue sameBytes heldRefused someRefused someAlike arrivalRefusal frameRefusal wrongTrailer hasTrailer countBack
@@ -143,7 +146,7 @@ unfolding deliversFirst
 is-once = ap thenDelivers is-two ∙ then-once
 
 then-twice : deliversAgain once ≡ twice
-unfolding setUp inRange sendCall offerCall deliverCall brokenRecord brokenRules zeroDiagonal zeroColumn withinLimit zeroFrom count columnCount flat entry single
+unfolding ours lacksRight group setUp inRange sendCall offerCall deliverCall brokenRecord brokenRules zeroDiagonal zeroColumn withinLimit zeroFrom count columnCount flat entry single
     atLimit protocolSend.send protocolOffer.offer protocolDeliver.deliver deliverable trimFor fullest clear only merge framesOf encode sealed front headerBytes
     headerOf header ownLength entriesBytes entryBytes entriesOf listed placed entriesFrom entryAt matrixOf le16 le32 u16At u32At bytes.put trailer
     trailers.counted checksum total decode wrongQueue sameBytes heldRefused someRefused someAlike arrivalRefusal frameRefusal wrongTrailer hasTrailer countBack
@@ -163,7 +166,7 @@ unfolding untrimmed
 is-merged = ap (λ (c : AfterDeliver). merged c from₂) is-once ∙ ap (merged once) is-still
 
 merged-four : count (merged once still) ≡ 4
-unfolding setUp inRange sendCall offerCall deliverCall brokenRecord brokenRules zeroDiagonal zeroColumn withinLimit zeroFrom count columnCount flat entry single
+unfolding ours lacksRight group setUp inRange sendCall offerCall deliverCall brokenRecord brokenRules zeroDiagonal zeroColumn withinLimit zeroFrom count columnCount flat entry single
     atLimit protocolSend.send protocolOffer.offer protocolDeliver.deliver deliverable trimFor fullest clear only merge framesOf encode sealed front headerBytes
     headerOf header ownLength entriesBytes entryBytes entriesOf listed placed entriesFrom entryAt matrixOf le16 le32 u16At u32At bytes.put trailer
     trailers.counted checksum total decode wrongQueue sameBytes heldRefused someRefused someAlike arrivalRefusal frameRefusal wrongTrailer hasTrailer countBack
@@ -171,7 +174,7 @@ unfolding setUp inRange sendCall offerCall deliverCall brokenRecord brokenRules 
 merged-four = refl
 
 merged-tie : (columnCount (merged once still) 1 ≡ 2) × (columnCount (merged once still) 2 ≡ 2)
-unfolding setUp inRange sendCall offerCall deliverCall brokenRecord brokenRules zeroDiagonal zeroColumn withinLimit zeroFrom count columnCount flat entry single
+unfolding ours lacksRight group setUp inRange sendCall offerCall deliverCall brokenRecord brokenRules zeroDiagonal zeroColumn withinLimit zeroFrom count columnCount flat entry single
     atLimit protocolSend.send protocolOffer.offer protocolDeliver.deliver deliverable trimFor fullest clear only merge framesOf encode sealed front headerBytes
     headerOf header ownLength entriesBytes entryBytes entriesOf listed placed entriesFrom entryAt matrixOf le16 le32 u16At u32At bytes.put trailer
     trailers.counted checksum total decode wrongQueue sameBytes heldRefused someRefused someAlike arrivalRefusal frameRefusal wrongTrailer hasTrailer countBack
@@ -196,7 +199,7 @@ got =
     }) empty out (79 ∷ replicate 63 0)
 
 is-held : holdsOne ≡ held
-unfolding setUp inRange sendCall offerCall deliverCall brokenRecord brokenRules zeroDiagonal zeroColumn withinLimit zeroFrom count columnCount flat entry single
+unfolding ours lacksRight group setUp inRange sendCall offerCall deliverCall brokenRecord brokenRules zeroDiagonal zeroColumn withinLimit zeroFrom count columnCount flat entry single
     atLimit protocolSend.send protocolOffer.offer protocolDeliver.deliver deliverable trimFor fullest clear only merge framesOf encode sealed front headerBytes
     headerOf header ownLength entriesBytes entryBytes entriesOf listed placed entriesFrom entryAt matrixOf le16 le32 u16At u32At bytes.put trailer
     trailers.counted checksum total decode wrongQueue sameBytes heldRefused someRefused someAlike arrivalRefusal frameRefusal wrongTrailer hasTrailer countBack
@@ -205,7 +208,7 @@ unfolding setUp inRange sendCall offerCall deliverCall brokenRecord brokenRules 
 is-held = refl
 
 held-again : thenOffers held (thirteen 97) .result .answer ≡ offerAnswer.Refused 15
-unfolding setUp inRange sendCall offerCall deliverCall brokenRecord brokenRules zeroDiagonal zeroColumn withinLimit zeroFrom count columnCount flat entry single
+unfolding ours lacksRight group setUp inRange sendCall offerCall deliverCall brokenRecord brokenRules zeroDiagonal zeroColumn withinLimit zeroFrom count columnCount flat entry single
     atLimit protocolSend.send protocolOffer.offer protocolDeliver.deliver deliverable trimFor fullest clear only merge framesOf encode sealed front headerBytes
     headerOf header ownLength entriesBytes entryBytes entriesOf listed placed entriesFrom entryAt matrixOf le16 le32 u16At u32At bytes.put trailer
     trailers.counted checksum total decode wrongQueue sameBytes heldRefused someRefused someAlike arrivalRefusal frameRefusal wrongTrailer hasTrailer countBack
@@ -213,7 +216,7 @@ unfolding setUp inRange sendCall offerCall deliverCall brokenRecord brokenRules 
 held-again = refl
 
 then-got : thenDelivers held ≡ got
-unfolding setUp inRange sendCall offerCall deliverCall brokenRecord brokenRules zeroDiagonal zeroColumn withinLimit zeroFrom count columnCount flat entry single
+unfolding ours lacksRight group setUp inRange sendCall offerCall deliverCall brokenRecord brokenRules zeroDiagonal zeroColumn withinLimit zeroFrom count columnCount flat entry single
     atLimit protocolSend.send protocolOffer.offer protocolDeliver.deliver deliverable trimFor fullest clear only merge framesOf encode sealed front headerBytes
     headerOf header ownLength entriesBytes entryBytes entriesOf listed placed entriesFrom entryAt matrixOf le16 le32 u16At u32At bytes.put trailer
     trailers.counted checksum total decode wrongQueue sameBytes heldRefused someRefused someAlike arrivalRefusal frameRefusal wrongTrailer hasTrailer countBack
@@ -225,7 +228,7 @@ unfolding deliversOne
 is-got = ap thenDelivers is-held ∙ then-got
 
 got-again : offerCall (got .result .node) (thirteen 97) (got .queue) .result .answer ≡ offerAnswer.Refused 14
-unfolding setUp inRange sendCall offerCall deliverCall brokenRecord brokenRules zeroDiagonal zeroColumn withinLimit zeroFrom count columnCount flat entry single
+unfolding ours lacksRight group setUp inRange sendCall offerCall deliverCall brokenRecord brokenRules zeroDiagonal zeroColumn withinLimit zeroFrom count columnCount flat entry single
     atLimit protocolSend.send protocolOffer.offer protocolDeliver.deliver deliverable trimFor fullest clear only merge framesOf encode sealed front headerBytes
     headerOf header ownLength entriesBytes entryBytes entriesOf listed placed entriesFrom entryAt matrixOf le16 le32 u16At u32At bytes.put trailer
     trailers.counted checksum total decode wrongQueue sameBytes heldRefused someRefused someAlike arrivalRefusal frameRefusal wrongTrailer hasTrailer countBack
@@ -234,7 +237,7 @@ got-again = refl
 
 -- ---- 15 held
 no-place : sixteenth (numbered 16) .result .answer ≡ offerAnswer.Refused 16
-unfolding setUp inRange sendCall offerCall deliverCall brokenRecord brokenRules zeroDiagonal zeroColumn withinLimit zeroFrom count columnCount flat entry single
+unfolding ours lacksRight group setUp inRange sendCall offerCall deliverCall brokenRecord brokenRules zeroDiagonal zeroColumn withinLimit zeroFrom count columnCount flat entry single
     atLimit protocolSend.send protocolOffer.offer protocolDeliver.deliver deliverable trimFor fullest clear only merge framesOf encode sealed front headerBytes
     headerOf header ownLength entriesBytes entryBytes entriesOf listed placed entriesFrom entryAt matrixOf le16 le32 u16At u32At bytes.put trailer
     trailers.counted checksum total decode wrongQueue sameBytes heldRefused someRefused someAlike arrivalRefusal frameRefusal wrongTrailer hasTrailer countBack
@@ -251,7 +254,7 @@ full =
     }) (laid (waiting 15 ++ (numbered 0 ∷ [])))
 
 is-full : sixteenth (numbered 0) ≡ full
-unfolding setUp inRange sendCall offerCall deliverCall brokenRecord brokenRules zeroDiagonal zeroColumn withinLimit zeroFrom count columnCount flat entry single
+unfolding ours lacksRight group setUp inRange sendCall offerCall deliverCall brokenRecord brokenRules zeroDiagonal zeroColumn withinLimit zeroFrom count columnCount flat entry single
     atLimit protocolSend.send protocolOffer.offer protocolDeliver.deliver deliverable trimFor fullest clear only merge framesOf encode sealed front headerBytes
     headerOf header ownLength entriesBytes entryBytes entriesOf listed placed entriesFrom entryAt matrixOf le16 le32 u16At u32At bytes.put trailer
     trailers.counted checksum total decode wrongQueue sameBytes heldRefused someRefused someAlike arrivalRefusal frameRefusal wrongTrailer hasTrailer countBack
@@ -261,7 +264,7 @@ is-full = refl
 
 -- ---- the table
 pub diamonds : Diamonds
-unfolding setUp inRange sendCall offerCall deliverCall brokenRecord brokenRules zeroDiagonal zeroColumn withinLimit zeroFrom count columnCount flat entry single
+unfolding ours lacksRight group setUp inRange sendCall offerCall deliverCall brokenRecord brokenRules zeroDiagonal zeroColumn withinLimit zeroFrom count columnCount flat entry single
     atLimit protocolSend.send protocolOffer.offer protocolDeliver.deliver deliverable trimFor fullest clear only merge framesOf encode sealed front headerBytes
     headerOf header ownLength entriesBytes entryBytes entriesOf listed placed entriesFrom entryAt matrixOf le16 le32 u16At u32At bytes.put trailer
     trailers.counted checksum total decode wrongQueue sameBytes heldRefused someRefused someAlike arrivalRefusal frameRefusal wrongTrailer hasTrailer countBack

@@ -20,6 +20,8 @@ use Rattle.protocol.specs.Send.{badDestination, longBody}
 use Rattle.protocol.specs.Offer.{claimsTooMuch, deliveredBefore, heldAlready, noRoom, notForMe}
 use Rattle.holdback.specs.Slots.{queueSize}
 use Rattle.holdback.specs.WrongQueue.{wrongQueue}
+use Rattle.rights.specs.Ours.{ours}
+use Rattle.rights.specs.Rights.{lacksRight}
 use Rattle.node.specs.declared.Node.{Node as Record}
 use Rattle.node.specs.Record.{brokenRecord, nodeOf, nodeAt}
 use Rattle.node.specs.Sizes.{outSize}
@@ -43,23 +45,25 @@ hostSetUpChecks i me n cap = check 1 (not (inRange me n cap)) ∷ check 20 (not 
 -- behind the buffers: 5. An M entry in row me, or a DELIV entry, is 1,000,000,000.
 -- 6. The destination is me or not below n.
 -- 7. The body is longer than 64.
-abbrev pub sendRest : Record → ℕ → (body : List ℕ) → List Check
-sendRest r to body =
+-- 21. The class is above 3 or lacks the topic's right (document 02, (vii)), by our table.
+abbrev pub sendRest : Record → (to class : ℕ) (body : List ℕ) → List Check
+sendRest r to class body =
     check 5 (atLimit (nodeOf r []))
     ∷ check 6 (badDestination (nodeOf r []) to)
     ∷ check 7 (longBody body)
+    ∷ check 21 (lacksRight ours class body)
     ∷ []
 
 -- 2. The record breaks a record rule.
 -- 3. A lent buffer is too short.
-abbrev pub sendChecks : Record → ℕ → (body out : List ℕ) → List Check
-sendChecks r to body out = check 2 (brokenRecord r) ∷ check 3 (ltb (length out) outSize) ∷ sendRest r to body
+abbrev pub sendChecks : Record → (to class : ℕ) (body out : List ℕ) → List Check
+sendChecks r to class body out = check 2 (brokenRecord r) ∷ check 3 (ltb (length out) outSize) ∷ sendRest r to class body
 
 -- the host's: 20. The image has another length, a bad trailer or a record that meets 2.
 -- 3. A lent buffer is too short, the frame output or the answer.
-abbrev pub hostSendChecks : (image : List ℕ) → ℕ → (body out answer : List ℕ) → List Check
-hostSendChecks i to body out answer =
-    check 20 (badImage i) ∷ check 3 (ltb (length out) outSize || ltb (length answer) answerSize) ∷ sendRest (recordIn i) to body
+abbrev pub hostSendChecks : (image : List ℕ) → (to class : ℕ) (body out answer : List ℕ) → List Check
+hostSendChecks i to class body out answer =
+    check 20 (badImage i) ∷ check 3 (ltb (length out) outSize || ltb (length answer) answerSize) ∷ sendRest (recordIn i) to class body
 
 -- ---- offer
 

@@ -42,10 +42,10 @@ pub record SetUpSays (me n cap : ℕ) (c : SetUp) : Type 0 where
   pub allZero : ¬ (setUpNumber (c .answer) ≡ 0) → c .node ≡ freshRecord 0 0 0
 
 -- send: a refusal leaves the record and the frame output
-pub record SendSays (r : Record) (to : ℕ) (body out : List ℕ) (c : AfterSend) : Type 0 where
-  pub numbers : numbers (sendChecks r to body out) ≡ 2 ∷ 3 ∷ 5 ∷ 6 ∷ 7 ∷ []
-  pub rising : Rising (sendChecks r to body out)
-  pub answers : Answers sendAnswer.Refused sendNumber (sendChecks r to body out) (c .result .answer)
+pub record SendSays (r : Record) (to class : ℕ) (body out : List ℕ) (c : AfterSend) : Type 0 where
+  pub numbers : numbers (sendChecks r to class body out) ≡ 2 ∷ 3 ∷ 5 ∷ 6 ∷ 7 ∷ 21 ∷ []
+  pub rising : Rising (sendChecks r to class body out)
+  pub answers : Answers sendAnswer.Refused sendNumber (sendChecks r to class body out) (c .result .answer)
   pub same : ¬ (sendNumber (c .result .answer) ≡ 0) → (c .result .node ≡ r) × (c .out ≡ out)
 
 -- offer: a refusal leaves the record and the queue
@@ -71,9 +71,9 @@ pub record HostSetUpSays (i : List ℕ) (me n cap : ℕ) (c : SetUpLeft) : Type 
   pub same : ¬ (c .status ≡ 0) → c .image ≡ i
 
 -- send: a refusal leaves the image, the frame output and the answer
-pub record HostSendSays (i : List ℕ) (to : ℕ) (body out answer : List ℕ) (c : SendLeft) : Type 0 where
-  pub numbers : numbers (hostSendChecks i to body out answer) ≡ 20 ∷ 3 ∷ 5 ∷ 6 ∷ 7 ∷ []
-  pub numbered : Numbered (hostSendChecks i to body out answer) (c .status)
+pub record HostSendSays (i : List ℕ) (to class : ℕ) (body out answer : List ℕ) (c : SendLeft) : Type 0 where
+  pub numbers : numbers (hostSendChecks i to class body out answer) ≡ 20 ∷ 3 ∷ 5 ∷ 6 ∷ 7 ∷ 21 ∷ []
+  pub numbered : Numbered (hostSendChecks i to class body out answer) (c .status)
   pub same : ¬ (c .status ≡ 0) → (c .image ≡ i) × (c .out ≡ out) × (c .answer ≡ answer)
 
 -- offer: a refusal leaves the image, the queue and the answer
@@ -116,11 +116,11 @@ pub record WalkSays (file : List ℕ) (w : ℕ) : Type 0 where
 -- ---- demand 1, for every input
 pub record Demand1 : Type 0 where
   pub setUp : (me n cap : ℕ) → SetUpSays me n cap (setUp me n cap)
-  pub send : (r : Record) (to : ℕ) (body out : List ℕ) → SendSays r to body out (sendCall r to body out)
+  pub send : (r : Record) (to class : ℕ) (body out : List ℕ) → SendSays r to class body out (sendCall r to class body out)
   pub offer : (r : Record) (s q : List ℕ) → OfferSays r s q (offerCall r s q)
   pub deliver : (r : Record) (q out body : List ℕ) → DeliverSays r q out body (deliverCall r q out body)
   pub hostSetUp : (i : List ℕ) (me n cap : ℕ) → HostSetUpSays i me n cap (exportedSetUp i me n cap)
-  pub hostSend : (i : List ℕ) (to : ℕ) (body out answer : List ℕ) → HostSendSays i to body out answer (exportedSend i to body out answer)
+  pub hostSend : (i : List ℕ) (to class : ℕ) (body out answer : List ℕ) → HostSendSays i to class body out answer (exportedSend i to class body out answer)
   pub hostOffer : (i s q answer : List ℕ) → HostOfferSays i s q answer (exportedOffer i s q answer)
   pub hostDeliver : (i q out body answer : List ℕ) → HostDeliverSays i q out body answer (exportedDeliver i q out body answer)
   pub load : (input : List ℕ) → LoadSays input

@@ -9,6 +9,7 @@ use Rattle.matrix.specs.Matrix.{Matrix, columnCount, count, merge, single}
 use Rattle.matrix.specs.Message.{userMessage}
 use Rattle.frame.specs.Frame.{decode, encode}
 use Rattle.holdback.specs.Slots.{laid, queueSize, zeros}
+use Rattle.rights.specs.Rights.{camera, mover}
 use Rattle.node.specs.Answers.{AfterDeliver, AfterOffer, AfterSend}
 use Rattle.node.specs.Calls.{deliverCall, offerCall, sendCall}
 use Rattle.node.specs.Sizes.{outSize}
@@ -37,9 +38,9 @@ empty = zeros queueSize
 abbrev pub fresh : ℕ → ℕ → ℕ → Record
 fresh me n cap = setUp me n cap .node
 
--- a send with a lent output, an offer to what an offer left, a deliver from what an offer or a deliver left, with lent outputs
-abbrev pub sends : Record → ℕ → List ℕ → AfterSend
-sends r to body = sendCall r to body out
+-- a send by a class, with a lent output, an offer to what an offer left, a deliver from what an offer or a deliver left, with lent outputs
+abbrev pub sends : Record → (to class : ℕ) (body : List ℕ) → AfterSend
+sends r to class body = sendCall r to class body out
 
 abbrev pub thenOffers : AfterOffer → List ℕ → AfterOffer
 thenOffers c s = offerCall (c .result .node) s (c .queue)
@@ -68,7 +69,7 @@ gets from number tried body bytes extras =
 abbrev pub rows : (a b c d e f g h i : ℕ) → List ℕ
 rows a b c d e f g h i = (a ∷ b ∷ c ∷ replicate 9 0) ++ ((d ∷ e ∷ f ∷ replicate 9 0) ++ ((g ∷ h ∷ i ∷ replicate 9 0) ++ replicate 108 0))
 
--- ---- n 3, cap 3, fresh 0 sends "O" to 1
+-- ---- n 3, cap 3, fresh 0 sends "O" to 1: a camera's, since its topic 79 is exposure
 
 -- its 13 bytes, hex 01 00 01 00 01 03 03 00 4F 09 00 61 00, with the byte x for 61
 abbrev pub thirteen : ℕ → List ℕ
@@ -76,15 +77,15 @@ thirteen x = 1 ∷ 0 ∷ 1 ∷ 0 ∷ 1 ∷ 3 ∷ 3 ∷ 0 ∷ 79 ∷ 9 ∷ 0 ∷ 
 
 -- ---- the tie
 
--- the records and frames of nodes 0, 1 and 2 after their two sends
+-- the records and frames of nodes 0, 1 and 2 after their two sends, of empty bodies, which every class may send
 unfoldable pub sent₀ : Record
-sent₀ = sends (sends (fresh 0 3 3) 1 [] .result .node) 2 [] .result .node
+sent₀ = sends (sends (fresh 0 3 3) 1 mover [] .result .node) 2 mover [] .result .node
 
 unfoldable pub from₁ : List ℕ
-from₁ = frameOf (sends (sends (fresh 1 3 3) 2 [] .result .node) 0 [])
+from₁ = frameOf (sends (sends (fresh 1 3 3) 2 mover [] .result .node) 0 mover [])
 
 unfoldable pub from₂ : List ℕ
-from₂ = frameOf (sends (sends (fresh 2 3 3) 1 [] .result .node) 0 [])
+from₂ = frameOf (sends (sends (fresh 2 3 3) 1 mover [] .result .node) 0 mover [])
 
 -- node 0 holds the one from 1, then the one from 2
 unfoldable pub holdsBoth : AfterOffer
@@ -132,8 +133,8 @@ sixteenth s = offerCall fifteen s (laid (waiting 15))
 -- ---- the table
 pub record Diamonds : Type 0 where
   -- ◆ n 3, cap 3, fresh 0 sends "O" to 1, hex: 01 00 01 00 01 03 03 00 4F 09 00 61 00.
-  pub sendsO : sends (fresh 0 3 3) 1 (79 ∷ []) .result .answer ≡ sendAnswer.Sent 13 0
-  pub bytesO : sends (fresh 0 3 3) 1 (79 ∷ []) .out ≡ thirteen 97 ++ replicate 2035 0
+  pub sendsO : sends (fresh 0 3 3) 1 camera (79 ∷ []) .result .answer ≡ sendAnswer.Sent 13 0
+  pub bytesO : sends (fresh 0 3 3) 1 camera (79 ∷ []) .out ≡ thirteen 97 ++ replicate 2035 0
   -- ◆ With 62 for 61: 8.
   pub wrongSum : offerCall (fresh 1 3 3) (thirteen 98) empty .result .answer ≡ offerAnswer.Refused 8
   -- ◆ n 2: cap 4 is taken;
@@ -143,11 +144,11 @@ pub record Diamonds : Type 0 where
   -- ◆ n 1: 1.
   pub n1 : setUp 0 1 1 .answer ≡ setUpAnswer.Refused 1
   -- ◆ Body 64 goes;
-  pub body64 : sends (fresh 0 3 3) 1 (replicate 64 79) .result .answer ≡ sendAnswer.Sent 76 0
+  pub body64 : sends (fresh 0 3 3) 1 camera (replicate 64 79) .result .answer ≡ sendAnswer.Sent 76 0
   -- ◆ 65: 7.
-  pub body65 : sends (fresh 0 3 3) 1 (replicate 65 79) .result .answer ≡ sendAnswer.Refused 7
+  pub body65 : sends (fresh 0 3 3) 1 camera (replicate 65 79) .result .answer ≡ sendAnswer.Refused 7
   -- ◆ Destination me: 6.
-  pub toMe : sends (fresh 0 3 3) 0 (79 ∷ []) .result .answer ≡ sendAnswer.Refused 6
+  pub toMe : sends (fresh 0 3 3) 0 camera (79 ∷ []) .result .answer ≡ sendAnswer.Refused 6
   -- ◆ n 3, cap 3. 0 sends to 1, then to 2; 1 sends to 2, then to 0; 2 sends to 1, then to 0. Node 0 delivers the one from 1 (three entries stand),
   pub first : deliversFirst .result .answer ≡ gets 1 1 1 0 0 0
   pub three : count (entry (deliversFirst .result .node .m)) ≡ 3

@@ -13,6 +13,9 @@ use Rattle.holdback.specs.WrongQueue.{heldRefused, sameBytes, someAlike, someRe
 use Rattle.holdback.specs.Slots.{frameIn, heldFrames, padded, slots, without, zeros}
 use Rattle.matrix.specs.Array.{entry, flat}
 use Rattle.matrix.specs.Matrix.{clear, columnCount, count, fullest, merge, only}
+use Rattle.rights.specs.Ours.{ours}
+use Rattle.rights.specs.Rights.{lacksRight}
+use Rattle.rights.specs.Topics.{group}
 use Rattle.node.specs.Calls.{deliverCall, offerCall, sendCall}
 use Rattle.node.specs.Record.{brokenRecord}
 use Rattle.rules.specs.Rules.{brokenRules, inRange, withinLimit, zeroColumn, zeroDiagonal, zeroFrom}
@@ -107,7 +110,7 @@ waited =
     ++ (84 ∷ 32 ∷ 51 ∷ 32 ∷ 48 ∷ 32 ∷ 51 ∷ 32 ∷ 49 ∷ 32 ∷ 48 ∷ 10 ∷ [])
 
 pub examples : (output input ≡ printed) × (output waiting ≡ waited)
-unfolding setUp inRange cutFor sendCall offerCall deliverCall brokenRecord brokenRules zeroDiagonal zeroColumn withinLimit zeroFrom count columnCount flat entry
+unfolding ours lacksRight group setUp inRange cutFor sendCall offerCall deliverCall brokenRecord brokenRules zeroDiagonal zeroColumn withinLimit zeroFrom count columnCount flat entry
     atLimit protocolSend.send protocolOffer.offer protocolDeliver.deliver deliverable trimFor fullest clear only merge framesOf encode sealed front headerBytes
     headerOf header ownLength entriesBytes entryBytes entriesOf listed placed entriesFrom entryAt matrixOf le16 le32 u16At u32At bytes.put trailer
     trailers.counted checksum total decode wrongQueue sameBytes heldRefused someRefused someAlike arrivalRefusal frameRefusal wrongTrailer hasTrailer countBack

@@ -3,7 +3,6 @@ use Prim.Native.Nat.{_<_, ℕ}
 use mathlib.Core.Bool.{false}
 use mathlib.Core.List.{List, [], _++_, _∷_, map, map-append}
 use mathlib.Core.Path.{_∙_, _≡_, ap, refl, subst, sym}
-use native.Mathlib.Decide.{ℕ-discrete}
 use native.Mathlib.Omega.{arith}
 use lib.ListN.{length, length-map, replicate}
 use Rattle.arrival.proofs.Arrived.{arrives}
@@ -20,12 +19,12 @@ use Rattle.matrix.proofs.Columns.{MatrixRules}
 use Rattle.matrix.specs.Array.{entry, flat, vector}
 use Rattle.matrix.specs.Matrix.{clear}
 use Rattle.matrix.specs.Message.{Message, number}
-use Rattle.node.proofs.Delivering.{deliver-accepted, deliver-ready, deliver-refused}
-use Rattle.node.proofs.Offering.{Offerable, offer-accepted, offer-refused, offerable}
-use Rattle.node.proofs.Sending.{Sendable, send-accepted, send-refused, sendable}
+use Rattle.node.proofs.Cases.{deliver-cases, offer-cases, send-cases}
+use Rattle.node.proofs.Delivering.{deliver-ready}
+use Rattle.node.proofs.Offering.{Offerable, offerable}
+use Rattle.node.proofs.Sending.{Sendable, sendable}
 use Rattle.node.specs.Answers.{AfterDeliver, AfterOffer, AfterSend, setUpNumber}
 use Rattle.node.specs.Calls.{deliverCall, offerCall, sendCall}
-use Rattle.node.specs.CallRefusals.{deliverRefusal, offerRefusal, sendRefusal, shortOutputs}
 use Rattle.node.specs.Record.{nodeAt, brokenRecord, nodeOf}
 use Rattle.node.specs.SetUp.{freshRecord, setUp}
 use Rattle.node.specs.declared.Node.{Node as Record}
@@ -93,9 +92,9 @@ fresh me n cap e =
 
 module _ (r : Record) (q : List ℕ) (s : SoundState r q) where
   -- a send that is not refused
-  sent : (to body out : ℕ) → Sendable r to body out
+  sent : (to class : ℕ) (body : List ℕ) (out : ℕ) → Sendable r to class body out
       → SoundState (with r (flat (trimFor 12 (r .me) (r .n) (r .cap) (clear (r .me) to (entry (r .m))) .matrix)) (r .deliv) (r .held)) q
-  sent to body out k =
+  sent to class body out k =
       let u = facts r q s in
       let m : List ℕ = flat (trimFor 12 (r .me) (r .n) (r .cap) (clear (r .me) to (entry (r .m))) .matrix) in
       let f : Follows r m (r .deliv) (frames r q s)
@@ -114,14 +113,10 @@ module _ (r : Record) (q : List ℕ) (s : SoundState r q) where
       subst (λ (x : List ℕ). SoundState (with r m (r .deliv) (r .held)) x) (sym (laid-out r q s))
       (subst (λ (h : ℕ). SoundState (with r m (r .deliv) h) (laid (frames r q s))) (as-many r q s) (follows r m (r .deliv) (frames r q s) (s .not2) f))
 
-  sends : (to : ℕ) (body out : List ℕ) → SoundState (sendCall r to body out .result .node) q
-  sends to body out = go (ℕ-discrete (sendRefusal r to (length body) (length out)) 0)
-    where
-      go : Dec (sendRefusal r to (length body) (length out) ≡ 0) → SoundState (sendCall r to body out .result .node) q
-      go (yes z) =
-          subst (λ (c : AfterSend). SoundState (c .result .node) q) (send-accepted r to body out z)
-          (sent to (length body) (length out) (sendable r to (length body) (length out) z))
-      go (no h) = subst (λ (c : AfterSend). SoundState (c .result .node) q) (send-refused r to body out (sendRefusal r to (length body) (length out)) refl h) s
+  sends : (to class : ℕ) (body out : List ℕ) → SoundState (sendCall r to class body out .result .node) q
+  sends to class body out =
+      send-cases (λ (c : AfterSend). SoundState (c .result .node) q) r to class body out (λ k h. s)
+      (λ z. sent to class body (length out) (sendable r to class body (length out) z))
 
   -- 12 to 14 do not look at the queue
   arrives-bare : (g : Message) → arrivalRefusal (nodeAt r q) g ≡ 0 → arrivalRefusal (bare r) g ≡ 0
@@ -151,23 +146,12 @@ module _ (r : Record) (q : List ℕ) (s : SoundState r q) where
       subst (λ (h : ℕ). SoundState (with r (r .m) (r .deliv) h) (laid (l ++ (x ∷ [])))) many (follows r (r .m) (r .deliv) (l ++ (x ∷ [])) (s .not2) f)
 
   offers : (x : List ℕ) → (let c : AfterOffer = offerCall r x q in SoundState (c .result .node) (c .queue))
-  offers x = go (ℕ-discrete (offerRefusal r x q) 0)
-    where
-      go : Dec (offerRefusal r x q ≡ 0) → (let c : AfterOffer = offerCall r x q in SoundState (c .result .node) (c .queue))
-      go (yes z) = subst (λ (c : AfterOffer). SoundState (c .result .node) (c .queue)) (offer-accepted r x q z) (held x (offerable r x q z))
-      go (no h) = subst (λ (c : AfterOffer). SoundState (c .result .node) (c .queue)) (offer-refused r x q (offerRefusal r x q) refl h) s
+  offers x = offer-cases (λ (c : AfterOffer). SoundState (c .result .node) (c .queue)) r x q (λ k h. s) (λ z. held x (offerable r x q z))
 
   delivers : (out body : List ℕ) → (let c : AfterDeliver = deliverCall r q out body in SoundState (c .result .node) (c .queue))
-  delivers out body = go (ℕ-discrete (deliverRefusal r q (shortOutputs (length out) (length body))) 0)
-    where
-      go : Dec (deliverRefusal r q (shortOutputs (length out) (length body)) ≡ 0)
-          → (let c : AfterDeliver = deliverCall r q out body in SoundState (c .result .node) (c .queue))
-      go (yes z) =
-          subst (λ (c : AfterDeliver). SoundState (c .result .node) (c .queue)) (deliver-accepted r q out body z)
-          (delivered r q s (deliver-ready r q (length out) (length body) z .free) out body)
-      go (no h) =
-          subst (λ (c : AfterDeliver). SoundState (c .result .node) (c .queue))
-          (deliver-refused r q out body (deliverRefusal r q (shortOutputs (length out) (length body))) refl h) s
+  delivers out body =
+      deliver-cases (λ (c : AfterDeliver). SoundState (c .result .node) (c .queue)) r q out body (λ k h. s)
+      (λ z. delivered r q s (deliver-ready r q (length out) (length body) z .free) out body)
 
 pub handedBack : HandedBack
 handedBack = record { fresh = fresh; sends = sends; offers = offers; delivers = delivers; size = size }

@@ -23,7 +23,7 @@ pub record SoundState (r : Record) (q : List ℕ) : Type 0 where
 -- size: such a queue has the length that 3 asks for
 pub record HandedBack : Type 0 where
   pub fresh : (me n cap : ℕ) → setUpNumber (setUp me n cap .answer) ≡ 0 → SoundState (setUp me n cap .node) (zeros queueSize)
-  pub sends : (r : Record) (q : List ℕ) → SoundState r q → (to : ℕ) (body out : List ℕ) → SoundState (sendCall r to body out .result .node) q
+  pub sends : (r : Record) (q : List ℕ) → SoundState r q → (to class : ℕ) (body out : List ℕ) → SoundState (sendCall r to class body out .result .node) q
   pub offers : (r : Record) (q : List ℕ) → SoundState r q → (s : List ℕ) → (let c : AfterOffer = offerCall r s q in SoundState (c .result .node) (c .queue))
   pub delivers : (r : Record) (q : List ℕ) → SoundState r q → (out body : List ℕ)
       → (let c : AfterDeliver = deliverCall r q out body in SoundState (c .result .node) (c .queue))

@@ -48,15 +48,16 @@ fn keep(
     state::store(s, k, node);
 }
 
-/// Send from record a to node b, with a body of c bytes and an output of d.
+/// Send from record a to node b, with a body of c bytes and an output of d, by class e; the body begins with the topic f.
 pub fn send(s: &mut Cells, l: Line) {
     let held = queue(s, l.a);
-    let pattern = text::pattern();
+    let mut pattern = text::pattern();
+    pattern[0] = text::byte(l.f);
     let b = text::within(&pattern, l.c);
     let mut out = [165u8; 4096];
     let o = text::within(&out, l.d);
     let body = [165u8; 128];
-    let r = state::load(s, l.a).send(l.b, &pattern[..b], &mut out[..o]);
+    let r = state::load(s, l.a).send(l.b, l.e, &pattern[..b], &mut out[..o]);
     keep(s, l.a, r.node, &held, &out, &body);
     let answer = r.answer;
     match answer {

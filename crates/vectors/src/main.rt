@@ -7,7 +7,8 @@
 //! - `# text`: a comment.
 //! - `Z`: everything as at first.
 //! - `U k me n cap`: set-up into record k.
-//! - `S k to b o`: send from record k to node `to`, with a body of b bytes (O, P, Q and so on) and an output of o bytes. Issued frames go into the log.
+//! - `S k to b o c t`: send from record k to node `to`, with a body of b bytes and an output of o bytes, by class c. The body's first byte is the topic t,
+//!   and P, Q and so on follow, so that topic 79 gives O, P, Q. Issued frames go into the log.
 //! - `O k q`: offer of the frame at hand at record k, with queue k cut to q bytes.
 //! - `D k q o b`: deliver at record k, with queue k cut to q bytes, an output of o and a body output of b bytes. Issued frames go into the log.
 //! - `R k` and `K k`: print record k, and the slots of queue k that are not all zero.

@@ -7,6 +7,7 @@ use mathlib.Core.Path.{_≡_, refl}
 use lib.Dec.{leb, nleb→lt}
 use lib.ListN.{getElem?}
 use Rattle.wire.proofs.Tests.{cond-elim, or-not}
+use Rattle.rights.specs.Rights.{mover}
 use Rattle.node.proofs.Told.{DeliverTold, OfferTold, SendTold, deliver-told, offer-told, send-told}
 use Rattle.node.specs.Answers.{AfterDeliver, AfterOffer, AfterSend}
 use Rattle.node.specs.Calls.{deliverCall, offerCall, sendCall}
@@ -23,7 +24,7 @@ use Rattle.world.specs.Steps.{frameOutput, offerStep, offerTo, refuse, s
 
 -- the calls of the three steps
 abbrev pub sendMade : World → ℕ → ℕ → AfterSend
-sendMade w i j = sendCall (w .records i) j [] frameOutput
+sendMade w i j = sendCall (w .records i) j mover [] frameOutput
 
 abbrev pub offerMade : World → Issue → AfterOffer
 offerMade w g = offerCall (w .records (destination (g .frame))) (g .frame) (w .queues (destination (g .frame)))
@@ -39,7 +40,7 @@ module _ (w : World) (P : AfterStep → Type 0) (refused : (k : ℕ) → P (refu
   unfolding sendStep
   send-cases n limit i j sent =
       cond-elim P (leb n i || exhausted n limit w) (refuse 17 w) (afterSent w i j (sendMade w i j) (sendMade w i j .result .answer)) (λ t. refused 17)
-      (λ t. go (nleb→lt n i (or-not (leb n i) (exhausted n limit w) t .0)) (sendMade w i j .result .answer) (send-told (w .records i) j [] frameOutput))
+      (λ t. go (nleb→lt n i (or-not (leb n i) (exhausted n limit w) t .0)) (sendMade w i j .result .answer) (send-told (w .records i) j mover [] frameOutput))
     where
       go : i < n → (a : SendAnswer) → SendTold frameOutput a (sendMade w i j) → P (afterSent w i j (sendMade w i j) a)
       go h (sendAnswer.Refused k) t = refused k

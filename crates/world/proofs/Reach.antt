@@ -33,7 +33,7 @@ run-more n w (t ∷ l) s = run-more n (step n w t) l s
 
 bodies-more : (l : List Step) (s : Step) → BodiesOfBytes l → BodiesOfBytes (s ∷ []) → BodiesOfBytes (l ++ (s ∷ []))
 bodies-more [] s b h = h
-bodies-more (sends i to body out ∷ l) s b h = (b .0, bodies-more l s (b .1) h)
+bodies-more (sends i to class body out ∷ l) s b h = (b .0, bodies-more l s (b .1) h)
 bodies-more (offers i p ∷ l) s b h = bodies-more l s b h
 bodies-more (delivers i out body ∷ l) s b h = bodies-more l s b h
 
@@ -49,9 +49,11 @@ module _ (n cap k : ℕ) (w : World) (r : Reached n cap k w) where
     same = ap (λ (x : World). step n x s) (r .same) ∙ sym (run-more n (start n cap) (r .steps) s);
   }
 
-  pub reached-send : (i to : ℕ) (out : List ℕ) → i < n → Reached n cap (k + 1) (sendAt w i (sends i to [] out) (sendCall (w .records i) to [] out))
+  pub reached-send : (i to class : ℕ) (out : List ℕ) → i < n
+      → Reached n cap (k + 1) (sendAt w i (sends i to class [] out) (sendCall (w .records i) to class [] out))
   unfolding step
-  reached-send i to out h = subst (Reached n cap (k + 1)) (cond-yes (ltb i n) _ w (lt→ltb _ _ h)) (reached-step (sends i to [] out) (small-bytes [] tt, tt))
+  reached-send i to class out h =
+      subst (Reached n cap (k + 1)) (cond-yes (ltb i n) _ w (lt→ltb _ _ h)) (reached-step (sends i to class [] out) (small-bytes [] tt, tt))
 
   pub reached-offer : (j p : ℕ) (g : Issue) → j < n → getElem? (w .log) p ≡ some g
       → Reached n cap (k + 1) (offerAt w j (offers j p) (offerCall (w .records j) (g .frame) (w .queues j)))

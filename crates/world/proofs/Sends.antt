@@ -9,6 +9,7 @@ use lib.Dec.{leb}
 use lib.ListN.{length, getD, take}
 use lib.Seq.{length-take-le}
 use Rattle.wire.specs.Bytes.{put as write}
+use Rattle.rights.specs.Rights.{mover}
 use Rattle.node.proofs.Told.{SendTold, SentFacts, send-told}
 use Rattle.node.specs.Answers.{AfterSend, afterSend}
 use Rattle.node.specs.Calls.{sendCall}
@@ -52,12 +53,12 @@ module _ (n cap limit k : ℕ) (w : World) (s : Stored) (q l : List ℕ) (h : Ho
       (refl, holds-later n cap limit k w s q l h)
 
   module _ (hi : i < n) (left : length (w .log) + n ≤ limit) (r : Record) (er : r ≡ getD (s .nodes) i noRecord) (a : Sent) (out : List ℕ)
-      (e : afterSend a out ≡ sendCall r j [] frameOutput) where
+      (e : afterSend a out ≡ sendCall r j mover [] frameOutput) where
     abbrev c : AfterSend
-    c = sendCall (w .records i) j [] frameOutput
+    c = sendCall (w .records i) j mover [] frameOutput
 
     same : c ≡ afterSend a out
-    same = sym (e ∙ ap (λ (x : Record). sendCall x j [] frameOutput) (er ∙ h .records i hi))
+    same = sym (e ∙ ap (λ (x : Record). sendCall x j mover [] frameOutput) (er ∙ h .records i hi))
 
     send-goes : sendStep n limit w i j ≡ afterSent w i j c (a .answer)
     unfolding sendStep
@@ -73,7 +74,7 @@ module _ (n cap limit k : ℕ) (w : World) (s : Stored) (q l : List ℕ) (h : Ho
       told = ap (λ (x : AfterSend). x .result .answer) same ∙ t
 
       facts : SentFacts frameOutput (c .out) bytes extras
-      facts = subst (λ (x : SendAnswer). SendTold frameOutput x c) told (send-told (w .records i) j [] frameOutput)
+      facts = subst (λ (x : SendAnswer). SendTold frameOutput x c) told (send-told (w .records i) j mover [] frameOutput)
 
       tells : bytesIssued (sent (c .result .answer)) ≡ bytes
       tells = ap (λ (x : SendAnswer). bytesIssued (sent x)) told
@@ -96,9 +97,9 @@ module _ (n cap limit k : ℕ) (w : World) (s : Stored) (q l : List ℕ) (h : Ho
           subst (λ (x : AfterStep). (outcome.Sent extras ≡ x .outcome) × Holds n cap limit (k + 1) (x .world) s′ q l′)
           (sym (send-goes ∙ ap (afterSent w i j c) t)) (
             refl,
-            holds-after n cap limit k w s q l h short i hi (sends i j [] frameOutput) (c .result .node) (w .queues i) (sent (c .result .answer))
+            holds-after n cap limit k w s q l h short i hi (sends i j mover [] frameOutput) (c .result .node) (w .queues i) (sent (c .result .answer))
                 (c .out) q (take bytes out) (1 + extras)
-                (reached-send n cap k w (h .reached) i j frameOutput hi) refl (h .queues i hi) (λ x hx z. refl)
+                (reached-send n cap k w (h .reached) i j mover frameOutput hi) refl (h .queues i hi) (λ x hx z. refl)
                 (frames-joined (take (bytesIssued (sent (c .result .answer))) (c .out))
                 ∙ ap₂ (λ (x : ℕ) (y : List ℕ). take x y) tells (ap (λ (x : AfterSend). x .out) same))
                 (ap (λ (x : ℕ). length (framesIn (take x (c .out)))) tells ∙ wrote-frames (f .wrote) ∙ f .many)

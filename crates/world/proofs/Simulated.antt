@@ -2,6 +2,7 @@
 use Prim.Native.Nat.{ℕ, _+_, _<_}
 use Rattle.matrix.specs.Message.{InRange}
 use Rattle.causality.specs.Demand3.{World, destination}
+use Rattle.rights.specs.Rights.{mover}
 use Rattle.world.proofs.Cases.{deliver-cases, offer-cases, send-cases}
 use Rattle.world.proofs.Reach.{issued-facts, reached-deliver, reached-later, reached-offer, reached-send}
 use Rattle.world.specs.Reached.{Reached}
@@ -15,7 +16,7 @@ module _ (n cap k : ℕ) (w : World) (r : Reached n cap k w) where
   refused-reached x = reached-later n cap k w r
 
   pub send-reached : (limit i j : ℕ) → Next (sendStep n limit w i j)
-  send-reached limit i j = send-cases w Next refused-reached n limit i j (λ h bytes extras told. reached-send n cap k w r i j frameOutput h)
+  send-reached limit i j = send-cases w Next refused-reached n limit i j (λ h bytes extras told. reached-send n cap k w r i j mover frameOutput h)
 
   pub offer-reached : InRange n cap → k < 1000000000 → (m : ℕ) → Next (offerStep w m)
   offer-reached inside short m =

@@ -7,6 +7,7 @@ use lib.Dec.{eqb, leb, ltb}
 use lib.ListN.{length, getElem?}
 use Rattle.wire.specs.Limits.{maxBody}
 use Rattle.holdback.specs.Slots.{zeros}
+use Rattle.rights.specs.Rights.{mover}
 use Rattle.node.specs.declared.SendAnswer.{SendAnswer}
 use Rattle.node.specs.declared.OfferAnswer.{OfferAnswer}
 use Rattle.node.specs.declared.DeliverAnswer.{DeliverAnswer}
@@ -40,17 +41,17 @@ refuse k w = record { outcome = outcome.Refused k; world = w }
 abbrev pub exhausted : ℕ → ℕ → World → Bool
 exhausted n limit w = ltb (limit - length (w .log)) n
 
--- ---- send, with an empty body
+-- ---- send, with an empty body, which every class may send; a simulation sends with class 0 (document 02, (vii))
 
 abbrev pub afterSent : World → ℕ → ℕ → AfterSend → SendAnswer → AfterStep
 afterSent w i j c (sendAnswer.Refused k) = refuse k w
-afterSent w i j c (sendAnswer.Sent bytes extras) = record { outcome = outcome.Sent extras; world = sendAt w i (sends i j [] frameOutput) c }
+afterSent w i j c (sendAnswer.Sent bytes extras) = record { outcome = outcome.Sent extras; world = sendAt w i (sends i j mover [] frameOutput) c }
 
 -- from i to j: 17 where i is not below n or too few issues are left; j is left to the node
 unfoldable pub sendStep : ℕ → ℕ → World → ℕ → ℕ → AfterStep
 sendStep n limit w i j =
     cond (leb n i || exhausted n limit w) (refuse 17 w)
-    (let c : AfterSend = sendCall (w .records i) j [] frameOutput in afterSent w i j c (c .result .answer))
+    (let c : AfterSend = sendCall (w .records i) j mover [] frameOutput in afterSent w i j c (c .result .answer))
 
 -- ---- offer, of an issue counted from 1, at its destination
 

@@ -13,7 +13,7 @@ ghost use Rattle.world.specs.Stored.{Holds, StandingRecords, storedBy};
 ghost use Rattle.world.specs.Start.{maxSimulated};
 ghost use Rattle.world.specs.Steps.{sendStep};
 
-/// Sends an empty body from node `from` to node `to`; 17 where `from` is no node or fewer than n of the limit's issues are left.
+/// Sends an empty body, which any class may, from node `from` to node `to`, as a mover; 17 where `from` is no node or fewer than n of the limit's issues are left.
 pub fn send(w: World, limit: usize, from: usize, to: usize, log: &mut [u8]) -> Stepped
     requires { ⌜ (limit < 1000000) × StandingRecords limit w (now log) ⌝ }
     ensures { λ r. ⌜ (r .at < maxSimulated) × ((n cap k : ℕ) (v : Lists) (q : List ℕ) → k + 1 < 1000000000 → Holds n cap limit k v w q (now (log .entry))
@@ -30,7 +30,7 @@ pub fn send(w: World, limit: usize, from: usize, to: usize, log: &mut [u8]) -> S
     let empty = [0u8; 1];
     let nothing: usize = 0;
     let mut out = [0u8; Node::OUT_SIZE];
-    let sent = record.send(to, &empty[..nothing], &mut out);
+    let sent = record.send(to, rights::MOVER, &empty[..nothing], &mut out);
     let answer = sent.answer;
     match answer {
         SendAnswer::Refused(why) => store::unchanged(w, Outcome::Refused(why)),

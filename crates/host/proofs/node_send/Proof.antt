@@ -65,15 +65,16 @@ same c = record-read _ _ _ (c .read-arrays .ensures .0) (c .read-arrays .ensures
 -- the refusal, of the record that the image reads as
 why : (c : tie.After-refusal) → c .refusal .result
     ≡ (let a = lent (arrays c) .args in
-    sendRefusal (recordIn (a .image .now)) (a .to) (length (a .body .now)) (sendRoom (a .image .now) (a .to) (a .body .now) (a .out .now) (a .answer .now)))
+    sendRefusal (recordIn (a .image .now)) (a .to) (a .class) (a .body .now)
+    (sendRoom (a .image .now) (a .to) (a .class) (a .body .now) (a .out .now) (a .answer .now)))
 why c =
     let a = lent (arrays c) .args in
     c .refusal .ensures
-    ∙ ap₂ (λ (x : Record) (room : ℕ). sendRefusal x (a .to) (length (a .body .now)) room) (same (arrays c)) (c .before .before .before .before .room .ensures)
+    ∙ ap₂ (λ (x : Record) (room : ℕ). sendRefusal x (a .to) (a .class) (a .body .now) room) (same (arrays c)) (c .before .before .before .before .room .ensures)
 
 -- once no check is met
-ready : (c : tie.Else2) → (let a = lent (checked c) .args in SendReady (a .image .now) (a .to) (a .body .now) (a .out .now) (a .answer .now))
-ready c = send-ready _ _ _ _ _ (whole (opened (checked c))) (sym (why (c .before)) ∙ c .if2 .left)
+ready : (c : tie.Else2) → (let a = lent (checked c) .args in SendReady (a .image .now) (a .to) (a .class) (a .body .now) (a .out .now) (a .answer .now))
+ready c = send-ready _ _ _ _ _ _ (whole (opened (checked c))) (sym (why (c .before)) ∙ c .if2 .left)
 
 -- the matrix that is read
 cells : (c : tie.After-read-arrays) → length (c .read-arrays .last .1 .0) ≡ 144
@@ -85,15 +86,15 @@ issued : (c : tie.After-issue)
       answer = Sent (c .issue .result .at) (c .issue .result .extras);
       node = withMatrix (c .issue .last .1 .1 .1 .0) (recordIn (lent (checked (passed c)) .args .image .now));
     }) (c .issue .last .1 .1 .1 .1 .1 .1 .0)
-    ≡ (let a = lent (checked (passed c)) .args in sendCall (recordIn (a .image .now)) (a .to) (a .body .now) (a .out .now))
+    ≡ (let a = lent (checked (passed c)) .args in sendCall (recordIn (a .image .now)) (a .to) (a .class) (a .body .now) (a .out .now))
 issued c =
-    send-issued _ _ _ _ _ _ _ _ _ (checked (passed c) .read-arrays .ensures .0) (ready (passed c) .passes) (c .issue .ensures)
+    send-issued _ _ _ _ _ _ _ _ _ _ (checked (passed c) .read-arrays .ensures .0) (ready (passed c) .passes) (c .issue .ensures)
 
 left-cells : (c : tie.After-issue) → length (c .issue .last .1 .1 .1 .0) ≡ 144
-left-cells c = send-cells _ _ _ _ _ _ _ _ (ready (passed c) .passes) (issued c)
+left-cells c = send-cells _ _ _ _ _ _ _ _ _ (ready (passed c) .passes) (issued c)
 
 small : (c : tie.After-issue) → (c .issue .result .extras < 256) × (c .issue .result .at < 65536)
-small c = send-small _ _ _ _ _ _ _ _ (issued c)
+small c = send-small _ _ _ _ _ _ _ _ _ (issued c)
 
 unsealed-requires : tie.Need-unsealed-requires
 unsealed-requires c κs = search needs
@@ -102,7 +103,7 @@ same-length : tie.Need-same-length
 same-length c = search needs
 
 returns : tie.Need-returns
-returns c = send-20 _ _ _ _ _ (sym (c .before .unsealed .ensures) ∙ c .if1 .taken)
+returns c = send-20 _ _ _ _ _ _ (sym (c .before .unsealed .ensures) ∙ c .if1 .taken)
 
 slice-read-me : tie.Need-slice-read-me
 slice-read-me c = omega (arith, size (c .before))
@@ -141,7 +142,7 @@ returns-2 : tie.Need-returns-2
 returns-2 c =
     let a = lent (arrays (c .before .before)) .args in
     rw (c .told .ensures)
-    (send-why (a .image .now) (a .to) (a .body .now) (a .out .now) (a .answer .now) (whole (opened (arrays (c .before .before)))) _ (why (c .before .before))
+    (send-why (a .image .now) (a .to) (a .class) (a .body .now) (a .out .now) (a .answer .now) (whole (opened (arrays (c .before .before)))) _ (why (c .before .before))
     (c .before .if2 .taken))
 
 issue-requires : tie.Need-issue-requires
@@ -150,9 +151,10 @@ issue-requires c κs =
     record {
       deliv = checked (c .before .before) .read-arrays .last .1 .1 .0;
       held = getD (a .image .now) 627 0;
+      class = a .class;
       cells = cells (checked (c .before .before));
       passes =
-          ap (λ (r : Record). sendRefusal r (a .to) (length (a .body .now)) (length (a .out .now))) (same (checked (c .before .before)))
+          ap (λ (r : Record). sendRefusal r (a .to) (a .class) (a .body .now) (length (a .out .now))) (same (checked (c .before .before)))
           ∙ ready (c .before .before) .passes;
     }
 
@@ -184,7 +186,7 @@ same-length-5 c = search needs
 returns-3 : tie.Need-returns-3
 returns-3 c =
     let a = lent (checked (passed (c .before .before .before .before .before .before .before .before .before .before .before .before .before))) .args in
-    send-done (a .image .now) (a .to) (a .body .now) (a .out .now) (a .answer .now)
+    send-done (a .image .now) (a .to) (a .class) (a .body .now) (a .out .now) (a .answer .now)
     (ready (passed (c .before .before .before .before .before .before .before .before .before .before .before .before .before))) _ _ _ _ _ _
     (issued (c .before .before .before .before .before .before .before .before .before .before .before .before .before))
     (c .before .before .before .before .before .before .before .before .store-matrix .ensures) (c .before .before .write .ensures)

@@ -11,7 +11,7 @@ refusal-requires c κs = search needs
 returns : tie.Need-returns
 returns c =
     let s = c .before .before .before .before .before .before .before in
-    send-refused (s .args .t1) (s .args .to) (s .args .body .now) (s .args .out .now) _ (c .before .refusal .ensures) (c .if1 .taken)
+    send-refused (s .args .t1) (s .args .to) (s .args .class) (s .args .body .now) (s .args .out .now) _ (c .before .refusal .ensures) (c .if1 .taken)
 
 issue-requires : tie.Need-issue-requires
 issue-requires c κs =
@@ -19,6 +19,7 @@ issue-requires c κs =
     record {
       deliv = s .args .t1 .deliv;
       held = s .args .t1 .held;
+      class = s .args .class;
       cells = search needs;
       passes = sym (c .before .before .before .refusal .ensures) ∙ c .before .before .if1 .left;
     }
@@ -33,7 +34,7 @@ returns-2 : tie.Need-returns-2
 returns-2 c =
     let s = c .before .before .before .before .before .before .before .before .before .before .before .before .before in
     c .before .before .before .issue .ensures _ _
-    ∙ send-accepted (s .args .t1) (s .args .to) (s .args .body .now) (s .args .out .now)
+    ∙ send-accepted (s .args .t1) (s .args .to) (s .args .class) (s .args .body .now) (s .args .out .now)
     (sym (c .before .before .before .before .before .before .before .refusal .ensures) ∙ c .before .before .before .before .before .before .if1 .left)
 
 pub send-spec : {M : Type 1} → statement M

@@ -17,8 +17,8 @@ passer c =
     record { me = a .me; n = a .n; cap = a .cap; m = a .m .now; deliv = c .pre .deliv; held = c .pre .held }
 
 -- what holds since no check is met
-passed-checks : (c : tie.Start) → Sendable (passer c) (c .args .to) (length (c .args .body .now)) (length (c .args .out .now))
-passed-checks c = sendable _ _ _ _ (c .pre .passes)
+passed-checks : (c : tie.Start) → Sendable (passer c) (c .args .to) (c .pre .class) (c .args .body .now) (length (c .args .out .now))
+passed-checks c = sendable _ _ _ _ _ (c .pre .passes)
 
 mine : (c : tie.Start) → c .args .me < 12
 mine c = let k = passed-checks c in omega (arith, k .sound .range .below, k .sound .range .atMost12)

@@ -1,9 +1,13 @@
 -- The checks in rising order. Assumes nothing.
-use mathlib.Core.Path.{_∙_, refl, sym}
+use mathlib.Core.Bool.{Bool, cond}
+use mathlib.Core.Path.{_∙_, _≡_, ap, refl, sym}
 use native.Mathlib.Omega.{arith}
 use borrow.Author.Needs.{needs}
-use Rattle.node.proofs.Sending.{send-0, send-2, send-3, send-5, send-6, send-7, to-far, to-me, to-other}
+use Rattle.node.proofs.Sending.{send-2, send-3, send-5, send-6, send-7, send-last, to-far, to-me, to-other}
+use Rattle.node.specs.CallRefusals.{sendRefusal}
 use Rattle.node.specs.Record.{brokenRecord}
+use Rattle.rights.specs.Ours.{ours}
+use Rattle.rights.specs.Rights.{lacksRight}
 use Rattle.rules.proofs.Facts.{unbroken}
 use Rattle.node.proofs.send.refusal.Statement.{statement}
 use Rattle.node.proofs.send.refusal.Tie as tie
@@ -13,18 +17,18 @@ broken-requires c κs = search needs
 
 returns : tie.Need-returns
 unfolding brokenRecord
-returns c = sym (send-2 _ _ _ _ (sym (c .before .broken .ensures) ∙ c .if1 .taken))
+returns c = sym (send-2 _ _ _ _ _ (sym (c .before .broken .ensures) ∙ c .if1 .taken))
 
 returns-2 : tie.Need-returns-2
 unfolding brokenRecord
 returns-2 c =
     let b = c .before in
-    sym (send-3 _ _ _ _ (sym (b .before .broken .ensures) ∙ b .if1 .left) (c .if2 .taken))
+    sym (send-3 _ _ _ _ _ (sym (b .before .broken .ensures) ∙ b .if1 .left) (c .if2 .taken))
 
 at-limit-requires : tie.Need-at-limit-requires
 at-limit-requires c κs =
     let b = c .before in
-    let s = b .before .before in
+    let s = b .before .before .before in
     let u = unbroken _ _ _ (s .args .m .now) _ _ (sym (b .before .broken .ensures) ∙ b .if1 .left) in
     (s .pre .0, s .pre .1, omega (arith, u .range .below, u .range .atMost12))
 
@@ -33,7 +37,7 @@ unfolding brokenRecord
 returns-3 c =
     let e = c .before .before in
     let b = e .before in
-    sym (send-5 _ _ _ _ (sym (b .before .broken .ensures) ∙ b .if1 .left) (e .if2 .left) (sym (c .before .at-limit .ensures _ refl refl refl) ∙ c .if3 .taken))
+    sym (send-5 _ _ _ _ _ (sym (b .before .broken .ensures) ∙ b .if1 .left) (e .if2 .left) (sym (c .before .at-limit .ensures _ refl refl refl) ∙ c .if3 .taken))
 
 returns-4 : tie.Need-returns-4
 unfolding brokenRecord
@@ -41,7 +45,7 @@ returns-4 c =
     let l = c .before in
     let e = l .before .before in
     let b = e .before in
-    sym (send-6 _ _ _ _ (sym (b .before .broken .ensures) ∙ b .if1 .left) (e .if2 .left) (sym (l .before .at-limit .ensures _ refl refl refl)
+    sym (send-6 _ _ _ _ _ (sym (b .before .broken .ensures) ∙ b .if1 .left) (e .if2 .left) (sym (l .before .at-limit .ensures _ refl refl refl)
     ∙ l .if3 .left) (to-me _ _ _ (c .if4 .taken)))
 
 returns-5 : tie.Need-returns-5
@@ -51,7 +55,7 @@ returns-5 c =
     let l = f .before in
     let e = l .before .before in
     let b = e .before in
-    sym (send-6 _ _ _ _ (sym (b .before .broken .ensures) ∙ b .if1 .left) (e .if2 .left) (sym (l .before .at-limit .ensures _ refl refl refl)
+    sym (send-6 _ _ _ _ _ (sym (b .before .broken .ensures) ∙ b .if1 .left) (e .if2 .left) (sym (l .before .at-limit .ensures _ refl refl refl)
     ∙ l .if3 .left) (to-far _ _ _ (c .if5 .taken)))
 
 returns-6 : tie.Need-returns-6
@@ -61,18 +65,37 @@ returns-6 c =
     let l = f .before in
     let e = l .before .before in
     let b = e .before in
-    sym (send-7 _ _ _ _ (sym (b .before .broken .ensures) ∙ b .if1 .left) (e .if2 .left) (sym (l .before .at-limit .ensures _ refl refl refl) ∙ l .if3 .left)
+    sym (send-7 _ _ _ _ _ (sym (b .before .broken .ensures) ∙ b .if1 .left) (e .if2 .left) (sym (l .before .at-limit .ensures _ refl refl refl) ∙ l .if3 .left)
     (to-other _ _ _ (f .if4 .left) (c .before .if5 .left)) (c .if6 .taken))
 
-returns-7 : tie.Need-returns-7
+slice-aggregate-lacks-right : tie.Need-slice-aggregate-lacks-right
+slice-aggregate-lacks-right c = search needs
+
+lacks-right-requires : tie.Need-lacks-right-requires
+lacks-right-requires c κs = search needs
+
+-- the last check is left
+last : (c : tie.Else6) → (let a = c .before .before .before .before .before .before .before .before .before .args in
+    sendRefusal (record { me = a .me; n = a .n; cap = a .cap; m = a .m .now; deliv = a .deliv .now; held = a .held }) (a .to) (a .class) (a .body .now) (a .out)
+    ≡ cond (lacksRight ours (a .class) (a .body .now)) 21 0)
 unfolding brokenRecord
-returns-7 c =
+last c =
     let f = c .before .before in
     let l = f .before in
     let e = l .before .before in
     let b = e .before in
-    sym (send-0 _ _ _ _ (sym (b .before .broken .ensures) ∙ b .if1 .left) (e .if2 .left) (sym (l .before .at-limit .ensures _ refl refl refl) ∙ l .if3 .left)
-    (to-other _ _ _ (f .if4 .left) (c .before .if5 .left)) (c .if6 .left))
+    send-last _ _ _ _ _ (sym (b .before .broken .ensures) ∙ b .if1 .left) (e .if2 .left) (sym (l .before .at-limit .ensures _ refl refl refl) ∙ l .if3 .left)
+    (to-other _ _ _ (f .if4 .left) (c .before .if5 .left)) (c .if6 .left)
+
+returns-7 : tie.Need-returns-7
+unfolding ours
+returns-7 c =
+    sym (last (c .before .before .before) ∙ ap (λ (t : Bool). cond t 21 0) (sym (c .before .lacks-right .ensures) ∙ c .if7 .taken))
+
+returns-8 : tie.Need-returns-8
+unfolding ours
+returns-8 c =
+    sym (last (c .before .before .before) ∙ ap (λ (t : Bool). cond t 21 0) (sym (c .before .lacks-right .ensures) ∙ c .if7 .left))
 
 pub refusal-spec : {M : Type 1} → statement M
 refusal-spec =
@@ -86,4 +109,7 @@ refusal-spec =
     returns-4
     returns-5
     returns-6
-    returns-7)
+    slice-aggregate-lacks-right
+    lacks-right-requires
+    returns-7
+    returns-8)

@@ -25,7 +25,7 @@ few c =
     sent-few (x .n) (x .cap) _ (x .k) (x .world) _ (d .0) _ (x .holds) (x .more) _ _ (omega (arith, x .holds .nodes))
     (omega (arith, x .holds .nodes, x .holds .issued)) _ refl _ _ (c .before .before .before .before .send .ensures) _ _ (c .before .answer2 .given .1)
 
-inside : (c : tie.After-known-told2) → c .before .answer2 .given .0 .0 ≤ length (c .before .before .before .before .send .last .1 .1 .1 .0)
+inside : (c : tie.After-known-told2) → c .before .answer2 .given .0 .0 ≤ length (c .before .before .before .before .send .last .1 .1 .1 .1 .0)
 unfolding zeros
 inside c =
     let d = c .before .before .before .before .before .before .before .before .before .before .before .pre .1 in
@@ -34,7 +34,7 @@ inside c =
     (omega (arith, x .holds .nodes, x .holds .issued)) _ refl _ _ (c .before .before .before .before .send .ensures) _ _ (c .before .answer2 .given .1)
 
 room : (c : tie.After-known-told2) → c .before .before .before .before .before .before .before .before .before .before .before .args .t1 .end + length
-    (take (c .before .answer2 .given .0 .0) (c .before .before .before .before .send .last .1 .1 .1 .0))
+    (take (c .before .answer2 .given .0 .0) (c .before .before .before .before .send .last .1 .1 .1 .1 .0))
     ≤ length (c .before .before .before .before .before .before .before .before .before .before .before .args .log .now)
 unfolding zeros
 room c =
