@@ -18,6 +18,9 @@ enum { CAP = 4, MOST_KEPT = 32 };
 
 static const char *const NAMES[PLANT] = {"cover", "dome", "camera", "archive"};
 
+/* What each node is; a real host knows the class of its one node. */
+static const size_t CLASSES[PLANT] = {CAUSAL_MOVER, CAUSAL_MOVER, CAUSAL_CAMERA, CAUSAL_ARCHIVE};
+
 struct node {
     uint8_t image[CAUSAL_IMAGE_BYTES];
     uint8_t queue[CAUSAL_QUEUE_BYTES]; /* all zero at the start, as static data is */
@@ -93,15 +96,38 @@ static size_t output_length(const uint8_t *answer)
     return answer[CAUSAL_ANSWER_OUTPUT] | (size_t)answer[CAUSAL_ANSWER_OUTPUT + 1] << 8;
 }
 
-static void say(size_t from, size_t to, const char *words)
+/* Sends a topic byte and words behind it, as the class that the node has, and keeps what is issued. */
+static uint8_t send_words(size_t from, size_t to, uint8_t topic, const char *words)
 {
-    uint8_t out[CAUSAL_OUTPUT_BYTES], answer[CAUSAL_ANSWER_BYTES];
+    uint8_t body[CAUSAL_BODY_BYTES], out[CAUSAL_OUTPUT_BYTES], answer[CAUSAL_ANSWER_BYTES], number;
+    size_t length = strlen(words);
 
+    if (length >= sizeof body)
+        fail("more words than a body takes", (unsigned)length);
+    body[0] = topic;
+    memcpy(body + 1, words, length);
+    number = node_send(nodes[from].image, sizeof nodes[from].image, to, CLASSES[from], body, 1 + length,
+                       out, sizeof out, answer, sizeof answer);
+    if (number == CAUSAL_TAKEN)
+        keep(out, output_length(answer));
+    return number;
+}
+
+static void say(size_t from, size_t to, uint8_t topic, const char *words)
+{
     printf("%s says \"%s\" to %s:\n", NAMES[from], words, NAMES[to]);
-    must(node_send(nodes[from].image, sizeof nodes[from].image, to, (const uint8_t *)words, strlen(words),
-                   out, sizeof out, answer, sizeof answer),
-         "a send was refused");
-    keep(out, output_length(answer));
+    must(send_words(from, to, topic, words), "a send was refused");
+}
+
+/* The same of a motion by a node that is no mover: nothing is issued. */
+static void announce_without_right(size_t from, size_t to, const char *words)
+{
+    uint8_t number = send_words(from, to, CAUSAL_TOPIC_MOTION, words);
+
+    if (number != CAUSAL_REFUSED_NO_RIGHT)
+        fail("a motion of a node that is no mover was not refused with 21", number);
+    printf("%s would say \"%s\" to %s: refused with 21, its class may not announce a motion\n", NAMES[from], words,
+           NAMES[to]);
 }
 
 /* What a host does about a frame that was not taken. */
@@ -144,6 +170,15 @@ static void note_delivered(size_t node, const uint8_t *answer)
     fail("a frame was delivered that nobody issued", answer[CAUSAL_ANSWER_FROM]);
 }
 
+/* Prints the words of a delivered message, which stand behind its topic. */
+static void print_heard(size_t node, const uint8_t *body, const uint8_t *answer)
+{
+    int length = answer[CAUSAL_ANSWER_BODY];
+
+    printf("    %s hears \"%.*s\" from %s\n", NAMES[node], length > 0 ? length - 1 : 0, (const char *)body + 1,
+           NAMES[answer[CAUSAL_ANSWER_FROM]]);
+}
+
 /* Delivers at a node until there is none. */
 static void deliver_all(size_t node)
 {
@@ -156,8 +191,7 @@ static void deliver_all(size_t node)
         if (answer[CAUSAL_ANSWER_KIND] == 0)
             break;
         if (answer[CAUSAL_ANSWER_KIND] == CAUSAL_USER)
-            printf("    %s hears \"%.*s\" from %s\n", NAMES[node], (int)answer[CAUSAL_ANSWER_BODY], (const char *)body,
-                   NAMES[answer[CAUSAL_ANSWER_FROM]]);
+            print_heard(node, body, answer);
         else
             printf("    %s takes an extra frame from %s\n", NAMES[node], NAMES[answer[CAUSAL_ANSWER_FROM]]);
         note_delivered(node, answer);
@@ -213,11 +247,11 @@ static void resend(void)
 /* The camera's report reaches the archive before the cover's message, and waits there. */
 static void detour(void)
 {
-    say(COVER, ARCHIVE, "closing");
+    say(COVER, ARCHIVE, CAUSAL_TOPIC_MOTION, "closing");
     printf("the link loses frame 1\n");
-    say(COVER, CAMERA, "closed");
+    say(COVER, CAMERA, CAUSAL_TOPIC_MOTION, "closed");
     bring(2);
-    say(CAMERA, ARCHIVE, "exposure ended");
+    say(CAMERA, ARCHIVE, CAUSAL_TOPIC_EXPOSURE, "exposure ended");
     bring(3);
     bring(3);
     bring_to(DOME, 3);
@@ -229,11 +263,12 @@ static void detour(void)
 /* More counts would stand at the cover than its cap allows: a delivery there issues extra frames. */
 static void opening(void)
 {
-    say(COVER, DOME, "opening soon");
-    say(DOME, CAMERA, "turning");
-    say(DOME, COVER, "turning");
-    say(CAMERA, DOME, "ready");
-    say(CAMERA, COVER, "ready");
+    say(COVER, DOME, CAUSAL_TOPIC_MOTION, "opening soon");
+    say(DOME, CAMERA, CAUSAL_TOPIC_MOTION, "turning");
+    say(DOME, COVER, CAUSAL_TOPIC_MOTION, "turning");
+    announce_without_right(CAMERA, COVER, "dome turning");
+    say(CAMERA, DOME, CAUSAL_TOPIC_NOTES, "ready");
+    say(CAMERA, COVER, CAUSAL_TOPIC_NOTES, "ready");
     bring(6);
     bring(8);
     resend();

@@ -57,6 +57,23 @@ enum {
     CAUSAL_EXTRA = 2               /* added by the algorithm: no body; brought and delivered like others */
 };
 
+/* The classes of nodes. docs/host.md has the table of what each may send. */
+enum {
+    CAUSAL_MOVER = 0,              /* moves something, as cover and dome do */
+    CAUSAL_CAMERA = 1,
+    CAUSAL_ARCHIVE = 2,
+    CAUSAL_PANEL = 3
+};
+
+/* A body's first byte is its topic: the first topic of each group, which ends in front of the next one's. */
+enum {
+    CAUSAL_TOPIC_MOTION = 0,       /* to 31 */
+    CAUSAL_TOPIC_EXPOSURE = 32,    /* to 95 */
+    CAUSAL_TOPIC_FILING = 96,      /* to 127 */
+    CAUSAL_TOPIC_NOTES = 128,      /* to 255 */
+    CAUSAL_TOPIC_EMPTY = 128       /* the topic of an empty body */
+};
+
 /* What is returned. */
 enum {
     CAUSAL_TAKEN = 0,
@@ -76,15 +93,20 @@ enum {
     CAUSAL_REFUSED_HELD = 15,            /* it is held already */
     CAUSAL_REFUSED_QUEUE_FULL = 16,      /* 16 are held, or 15 are and this one has to wait */
     CAUSAL_REFUSED_TRAIL = 19,           /* the window, or the frame there or to be written */
-    CAUSAL_REFUSED_IMAGE = 20            /* another length, a bad trailer, or a record that breaks a rule */
+    CAUSAL_REFUSED_IMAGE = 20,           /* another length, a bad trailer, or a record that breaks a rule */
+    CAUSAL_REFUSED_NO_RIGHT = 21         /* the class is above 3, or has no right to the body's topic */
 };
 
 /* Writes the fresh image of node me of n (2 to 12) with this cap (n to n * n), once in a plant's time: 1, 20. */
 uint8_t node_set_up(uint8_t *image, size_t image_length, size_t me, size_t n, size_t cap);
 
-/* Issues a frame with this body to node `to`, and any extra frames, end to end in `out`: 20, 3, 5, 6, 7. */
-uint8_t node_send(uint8_t *image, size_t image_length, size_t to, const uint8_t *body, size_t body_length,
-                  uint8_t *out, size_t out_length, uint8_t *answer, size_t answer_length);
+/*
+ * Issues a frame with this body to node `to`, and any extra frames, end to end in `out`. `node_class` is the class of
+ * the sending node, which is no part of its image or its frames: 20, 3, 5, 6, 7, 21.
+ */
+uint8_t node_send(uint8_t *image, size_t image_length, size_t to, size_t node_class,
+                  const uint8_t *body, size_t body_length, uint8_t *out, size_t out_length,
+                  uint8_t *answer, size_t answer_length);
 
 /* Checks a frame that a link brought and holds it back; the answer is zeros: 20, 3, 4, 8 to 16. */
 uint8_t node_offer(uint8_t *image, size_t image_length, const uint8_t *frame, size_t frame_length,

@@ -14,8 +14,8 @@ fn main() {
         return;
     }
     let before = PathBuf::from(variable("BEFORE"));
-    // One of another name may have other parameters, which no linker looks at.
-    assert!(before.ends_with("libnode_c.a"), "BEFORE is not the path of a libnode_c.a: {}", before.display());
+    // No linker looks at parameters: the archive has to be the one of the landing before classes came.
+    assert!(before.ends_with("libhost.a"), "BEFORE is not the path of a libhost.a: {}", before.display());
     let after = Path::new(&variable("CARGO_MANIFEST_DIR")).join("../../target/staticlib/libhost.a");
     let folder = PathBuf::from(variable("OUT_DIR"));
     println!("cargo:rustc-link-search=native={}", folder.display());
@@ -28,7 +28,7 @@ fn main() {
 
 /// A variable of the environment.
 fn variable(name: &str) -> String {
-    std::env::var(name).unwrap_or_else(|_| panic!("{name} is not set (BEFORE names an earlier libnode_c.a)"))
+    std::env::var(name).unwrap_or_else(|_| panic!("{name} is not set (BEFORE names an earlier libhost.a)"))
 }
 
 /// Copies an archive with its functions on lines of the cache, the node's calls renamed and all others hidden.

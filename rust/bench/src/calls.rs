@@ -1,7 +1,7 @@
 //! The node's calls timed side by side, from a lent image to the image after the call.
 
 use crate::measure::{is_wanted, median, nanoseconds};
-use crate::rows::{Call, Row};
+use crate::rows::{Call, Row, MOVER};
 use crate::states::State;
 use host::lent;
 use reference::host::ANSWER;
@@ -49,7 +49,7 @@ pub fn proved(call: &Call, bench: &mut Bench) -> u8 {
     let Bench { image, shelf, out, body, answer } = bench;
     match call {
         Call::SetUp { me, n, cap } => lent::set_up(image, *me, *n, *cap),
-        Call::Send { body } => lent::send(image, 1, body, out, answer),
+        Call::Send { body } => lent::send(image, 1, MOVER, body, out, answer),
         Call::Offer { frame } => lent::offer(image, frame, shelf, answer),
         Call::Deliver => lent::deliver(image, shelf, out, body, answer),
     }
@@ -60,7 +60,7 @@ pub fn plain(call: &Call, bench: &mut Bench) -> u8 {
     let Bench { image, shelf, out, body, answer } = bench;
     match call {
         Call::SetUp { me, n, cap } => reference::host::set_up(image, *me, *n, *cap),
-        Call::Send { body } => reference::host::send(image, 1, body, out, answer),
+        Call::Send { body } => reference::host::send(image, 1, MOVER, body, out, answer),
         Call::Offer { frame } => reference::host::offer(image, frame, shelf, answer),
         Call::Deliver => reference::host::deliver(image, shelf, out, body, answer),
     }
@@ -104,10 +104,6 @@ pub fn time(row: &Row, sides: [Side; 2], check: fn(&Bench, &Bench) -> bool) -> O
 
 /// Whether both left the same image, buffers and answer.
 pub fn same(one: &Bench, other: &Bench) -> bool {
-    one.image == other.image && one.answer == other.answer && same_buffers(one, other)
-}
-
-/// Whether both left the same buffers.
-pub fn same_buffers(one: &Bench, other: &Bench) -> bool {
-    one.shelf == other.shelf && one.out == other.out && one.body == other.body
+    let buffers = one.shelf == other.shelf && one.out == other.out && one.body == other.body;
+    one.image == other.image && one.answer == other.answer && buffers
 }

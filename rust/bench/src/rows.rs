@@ -6,6 +6,9 @@ use reference::Record;
 /// Different states of the rows with counts in random order: a processor can learn the outcomes of fewer by heart.
 const MERGES: u64 = 1024;
 
+/// The class that sends are made with, which has the right to their bodies.
+pub const MOVER: usize = 0;
+
 /// A call with what it only reads; sends go to node 1.
 pub enum Call {
     SetUp { me: usize, n: usize, cap: usize },

@@ -53,7 +53,9 @@ fn write_image(f: &mut Formatter<'_>, case: &Case) -> fmt::Result {
 fn write_call(f: &mut Formatter<'_>, call: &Call) -> fmt::Result {
     match call {
         Call::SetUp { me, n, cap } => writeln!(f, "  set-up: me {me} n {n} cap {cap}"),
-        Call::Send { to, body } => writeln!(f, "  send: to {to}, body of {}: {}", body.len(), hex(body)),
+        Call::Send { to, class, body } => {
+            writeln!(f, "  send: to {to}, class {class}, body of {}: {}", body.len(), hex(body))
+        }
         Call::Offer { frame } => writeln!(f, "  offer: frame of {}: {}", frame.len(), hex(frame)),
         Call::Deliver => writeln!(f, "  deliver"),
         Call::Yard { input } | Call::Load { input } => {

@@ -2,7 +2,7 @@
 //! refused calls beside the list's own.
 
 use crate::lists::{Pairs, Step, Stray, Totals};
-use generate::{frames, records, Call};
+use generate::{frames, records, topics, Call};
 use reference::history::ensure;
 use reference::host::ANSWER;
 use reference::image::IMAGE;
@@ -28,7 +28,7 @@ pub fn hostile(random: &mut Random, steps: usize, totals: Totals) -> Step<Totals
         match random.below(sends + delivers + 4) {
             choice if choice < sends => {
                 let to = random.below(n + 1);
-                pairs.send(node, to, &frames::any_body(random))?;
+                send(random, &mut pairs, node, to)?;
             }
             choice if choice < sends + delivers => {
                 pairs.deliver(node)?;
@@ -59,7 +59,7 @@ fn starve(random: &mut Random, pairs: &mut Pairs) -> Step<()> {
     let n = pairs.n();
     let node = random.below(n);
     let from = other(random, node, n);
-    pairs.send(from, node, &frames::any_body(random))?;
+    send(random, pairs, from, node)?;
     for _ in 0..Record::HELD + 2 {
         let sender = if random.once_in(6) { other(random, node, n) } else { from };
         send_and_bring(random, pairs, sender, node)?;
@@ -72,10 +72,17 @@ fn starve(random: &mut Random, pairs: &mut Pairs) -> Step<()> {
     pairs.check_progress()
 }
 
+/// Sends any body, by any class.
+fn send(random: &mut Random, pairs: &mut Pairs, from: usize, to: usize) -> Step<SendAnswer> {
+    let body = frames::any_body(random);
+    let class = topics::any_class(random, &body);
+    pairs.send(from, to, class, &body)
+}
+
 /// Sends to a node and offers the message there at once.
 fn send_and_bring(random: &mut Random, pairs: &mut Pairs, from: usize, to: usize) -> Step<()> {
     let issue = pairs.issued.len();
-    if let SendAnswer::Sent { .. } = pairs.send(from, to, &frames::any_body(random))? {
+    if let SendAnswer::Sent { .. } = send(random, pairs, from, to)? {
         pairs.offer_issue(to, issue)?;
     }
     Ok(())
@@ -123,7 +130,7 @@ fn stray(random: &mut Random, pairs: &mut Pairs) -> Step<()> {
     let image_length = if cut { random.pick(&[0, 628, IMAGE - 1]) } else { IMAGE };
     let call = match random.below(4) {
         0 => Call::SetUp { me: if cut { image } else { n }, n, cap: n },
-        1 => Call::Send { to: random.below(n + 1), body: frames::any_body(random) },
+        1 => Call::Send { to: random.below(n + 1), class: random.below(5), body: frames::any_body(random) },
         2 => Call::Offer { frame: pairs.issued.last().cloned().unwrap_or_default() },
         _ => Call::Deliver,
     };

@@ -13,6 +13,7 @@ use reference::history::{ensure, History, Wrong};
 use reference::host::ANSWER;
 use reference::image::IMAGE;
 use reference::node::OUTPUT;
+use reference::rights::{group, topic, CLASSES, GROUPS, OURS};
 use reference::{shelf, DeliverAnswer, OfferAnswer, Record, SendAnswer};
 use std::fmt::{Display, Formatter};
 
@@ -69,6 +70,8 @@ pub struct Reached {
     pub astray: usize,
     /// Refused calls beside the list's own.
     pub strays: usize,
+    /// Accepted sends, by the sender's class and the body's group.
+    pub sent: [[usize; GROUPS]; CLASSES],
     /// Earliest undelivered frames that an offer had to take.
     pub earliest_taken: usize,
     /// Earliest undelivered frames that were held already.
@@ -87,7 +90,7 @@ pub struct Stray {
     pub answer_length: usize,
 }
 
-/// Why a list stops: the two sides differ, or what both answered breaks a conclusion of demand 3.
+/// Why a list stops: the two sides differ, or what both answered breaks a conclusion of demand 3, or who may say what.
 #[derive(Clone, Debug)]
 pub enum Failure {
     Differs(Box<Difference>),
@@ -113,7 +116,7 @@ impl Display for Failure {
     fn fmt(&self, f: &mut Formatter<'_>) -> std::fmt::Result {
         match self {
             Failure::Differs(difference) => difference.fmt(f),
-            Failure::Breaks(wrong) => write!(f, "BOTH SIDES BREAK DEMAND 3: {wrong}"),
+            Failure::Breaks(wrong) => write!(f, "BOTH SIDES BREAK DEMAND 3 OR THE RIGHTS: {wrong}"),
         }
     }
 }
@@ -152,13 +155,14 @@ impl Pairs {
         self.seats.len()
     }
 
-    /// A send at a node.
-    pub fn send(&mut self, node: usize, to: usize, body: &[u8]) -> Step<SendAnswer> {
-        let outcome = self.step(node, Call::Send { to, body: body.to_vec() })?;
+    /// A send at a node, by any class.
+    pub fn send(&mut self, node: usize, to: usize, class: usize, body: &[u8]) -> Step<SendAnswer> {
+        let outcome = self.step(node, Call::Send { to, class, body: body.to_vec() })?;
         let Answer::Send(answer) = outcome.answer else { unreachable!("a send answers as one") };
         if let SendAnswer::Sent { bytes, .. } = answer {
             let first = self.note_issued(&outcome.buffers.out[..bytes]);
-            self.history.send(node, to, body, &self.issued[first..])?;
+            self.history.send(node, to, class, body, &self.issued[first..])?;
+            self.totals.reached.sent[class][group(topic(body)) as usize] += 1;
         }
         self.check_node(node)?;
         Ok(answer)
@@ -236,9 +240,10 @@ impl Pairs {
         Ok(())
     }
 
-    /// Demand 3's conclusions about the list so far. Once, kept and carried are checked in every step.
+    /// Demand 3's conclusions about the list so far, and who may say what. Once, kept and carried are checked in every step.
     pub fn check_conclusions(&mut self) -> Step<()> {
         self.history.check_causal_order()?;
+        self.history.rights_kept(&OURS, &self.issued)?;
         self.check_progress()
     }
 

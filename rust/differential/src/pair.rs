@@ -16,7 +16,7 @@ pub fn run_lent(mut image: Vec<u8>, call: &Call, buffers: &mut Buffers) -> Lent 
     let Buffers { shelf, out, body_out, answer, .. } = buffers;
     let number = match call {
         Call::SetUp { me, n, cap } => lent::set_up(&mut image, *me, *n, *cap),
-        Call::Send { to, body } => lent::send(&mut image, *to, body, out, answer),
+        Call::Send { to, class, body } => lent::send(&mut image, *to, *class, body, out, answer),
         Call::Offer { frame } => lent::offer(&mut image, frame, shelf, answer),
         Call::Deliver => lent::deliver(&mut image, shelf, out, body_out, answer),
         _ => panic!("{} is no call of the node", call.name()),

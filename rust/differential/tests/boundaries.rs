@@ -1,4 +1,4 @@
-//! The largest frame, send and delivery, each reached by a list on both implementations.
+//! The largest frame, send and delivery, and sends on both sides of 21, each reached by a list on both implementations.
 
 use differential::lists::{Pairs, Step};
 use reference::boundary::{self, Steps};
@@ -13,8 +13,8 @@ fn same<T>(step: Step<T>) -> T {
 }
 
 impl Steps for Same {
-    fn send(&mut self, i: usize, j: usize, body: &[u8]) -> SendAnswer {
-        same(self.0.send(i, j, body))
+    fn send(&mut self, i: usize, j: usize, class: usize, body: &[u8]) -> SendAnswer {
+        same(self.0.send(i, j, class, body))
     }
 
     fn offer(&mut self, node: usize, issue: usize) -> OfferAnswer {
@@ -55,4 +55,11 @@ fn a_delivery_of_504_bytes() {
 #[test]
 fn sixteen_frames_of_802_bytes() {
     boundary::sixteen_of_802(&mut start(144));
+}
+
+#[test]
+fn sends_on_both_sides_of_21() {
+    let mut list = Same(same(Pairs::start(2, 4)));
+    boundary::who_may_say_what(&mut list);
+    same(list.0.check_conclusions());
 }

@@ -10,7 +10,7 @@ use generate::Made;
 /// The refusals that each call gives.
 const REFUSALS: [(&str, &[u8]); 7] = [
     ("set-up", &[1, 20]),
-    ("send", &[3, 5, 6, 7, 20]),
+    ("send", &[3, 5, 6, 7, 20, 21]),
     ("offer", &[3, 4, 8, 9, 10, 11, 12, 13, 14, 15, 16, 20]),
     ("deliver", &[3, 4, 5, 20]),
     ("write", &[3, 19]),

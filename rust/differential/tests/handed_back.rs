@@ -12,6 +12,16 @@ use reference::{shelf, Record};
 /// The body lengths of sends, on both sides of the bound.
 const BODIES: [usize; 4] = [0, 1, 64, 65];
 
+/// A body of motion, which movers alone may send.
+fn any_body(random: &mut Random) -> Vec<u8> {
+    vec![7; random.pick(&BODIES)]
+}
+
+/// A mover mostly, or another number.
+fn any_class(random: &mut Random) -> usize {
+    random.pick(&[0, 0, 0, 0, 0, 0, 0, 0, 0, 1, 4])
+}
+
 /// Record and shelf meet neither 2 (for the host 20) nor 4.
 fn is_sound(state: &State) -> bool {
     state.record.keeps_rules() && shelf::check(&state.shelf, &state.record) == Ok(())
@@ -20,7 +30,7 @@ fn is_sound(state: &State) -> bool {
 /// A call with any input: destinations, bodies and frames that are taken, and ones that are refused.
 fn any_call(random: &mut Random, record: &Record) -> Call {
     match random.below(3) {
-        0 => Call::Send { to: random.below(13), body: vec![7; random.pick(&BODIES)] },
+        0 => Call::Send { to: random.below(13), class: any_class(random), body: any_body(random) },
         1 => Call::Offer { frame: any_frame(random, record) },
         _ => Call::Deliver,
     }
@@ -65,7 +75,7 @@ fn sound_states_stay_sound() {
         assert!(is_sound(&state), "{:?}", state.record);
     }
     println!("{}", counts.table());
-    let given = [("send", 5), ("offer", 8), ("offer", 13), ("offer", 16), ("deliver", 3), ("deliver", 5)];
+    let given = [("send", 5), ("send", 21), ("offer", 8), ("offer", 13), ("offer", 16), ("deliver", 3), ("deliver", 5)];
     assert!(given.iter().all(|(call, number)| counts.of(call, *number) > 100));
     assert!(["send", "offer", "deliver"].iter().all(|call| counts.of(call, 20) + counts.of(call, 4) == 0));
 }
@@ -80,7 +90,8 @@ fn run_list(random: &mut Random, totals: Totals) -> Step<Totals> {
         let node = random.below(n);
         let issues = pairs.issued.len();
         if issues == 0 || random.once_in(4) {
-            pairs.send(node, random.below(n + 1), &vec![7; random.pick(&BODIES)])?;
+            let body = any_body(random);
+            pairs.send(node, random.below(n + 1), any_class(random), &body)?;
         } else if random.once_in(3 * rest) {
             pairs.deliver(node)?;
         } else {
@@ -101,7 +112,7 @@ fn a_list_gives_these_refusals_and_no_other() {
     }
     println!("{}", totals.counts.table());
     // Lent outputs have their lengths here, so that 3 is not given.
-    let possible: [(&str, &[u8]); 3] = [("send", &[6, 7]), ("offer", &[12, 14, 15, 16]), ("deliver", &[])];
+    let possible: [(&str, &[u8]); 3] = [("send", &[6, 7, 21]), ("offer", &[12, 14, 15, 16]), ("deliver", &[])];
     for (call, numbers) in possible {
         for number in 1..=255 {
             assert_eq!(numbers.contains(&number), totals.counts.of(call, number) > 20, "{call} {number}");

@@ -21,7 +21,7 @@ fn calls(state: &State, image: &[u8], answer_length: usize) -> [Outcome; 3] {
     let (out, body_out) = (vec![FILL; OUTPUT], vec![FILL; Record::BODY]);
     let buffers = Buffers { shelf, out, body_out, answer: vec![FILL; answer_length], ..Buffers::default() };
     let to = usize::from(state.record.me == 0);
-    [Call::Send { to, body: b"body".to_vec() }, Call::Offer { frame }, Call::Deliver].map(|call| {
+    [Call::Send { to, class: 2, body: b"body".to_vec() }, Call::Offer { frame }, Call::Deliver].map(|call| {
         let case = Case { image: image.to_vec(), made: Made::Found, call, buffers: buffers.clone() };
         compare(&case).unwrap_or_else(|difference| panic!("{difference}"))
     })

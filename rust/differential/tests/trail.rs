@@ -2,6 +2,7 @@
 //! and what the proved side answers held against what a trail is to show.
 
 use differential::trails::{class, compare_trail};
+use generate::topics::allowed_class;
 use generate::trails::Trails;
 use generate::{Answer, Call, Case, Outcome, Walked};
 use host::trail::{largest, write, Shown, Walk};
@@ -135,7 +136,7 @@ fn frames_within(trails: &mut Trails, least: usize, most: usize) -> Vec<Vec<u8>>
 #[test]
 fn trails_cut_at_every_byte() {
     let (mut trails, mut met) = (Trails::new(711), Met::new(711));
-    for _ in 0..4 {
+    for _ in 0..6 {
         let file = frames_within(&mut trails, 1_000, 4_000).concat();
         for cut in 0..=file.len() {
             met.walk(&file[..cut], 1 + cut % 64);
@@ -254,7 +255,8 @@ fn delivered(random: &mut Random, n: usize, cap: usize, steps: usize) -> Vec<Vec
     let mut frames = Vec::new();
     for _ in 0..steps {
         let (from, to, length) = (random.below(n), random.below(n), random.below(65));
-        list.send(from, to, &random.bytes(length));
+        let body = random.bytes(length);
+        list.send(from, to, allowed_class(random, &body), &body);
         for issue in list.issued.len().saturating_sub(9)..list.issued.len() {
             let node = list.frame(issue).to();
             if random.once_in(3) {

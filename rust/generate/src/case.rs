@@ -17,7 +17,7 @@ pub const MARK: u8 = 0xA5;
 #[derive(Clone, Debug, PartialEq, Eq)]
 pub enum Call {
     SetUp { me: usize, n: usize, cap: usize },
-    Send { to: usize, body: Vec<u8> },
+    Send { to: usize, class: usize, body: Vec<u8> },
     Offer { frame: Vec<u8> },
     Deliver,
     Yard { input: Vec<u8> },
@@ -179,7 +179,7 @@ impl Case {
         let Buffers { shelf, out, body_out, answer, file } = buffers;
         match &self.call {
             Call::SetUp { me, n, cap } => Answer::SetUp(taken(host::set_up(image, *me, *n, *cap))),
-            Call::Send { to, body } => send_answer(host::send(image, *to, body, out, answer), answer),
+            Call::Send { to, class, body } => send_answer(host::send(image, *to, *class, body, out, answer), answer),
             Call::Offer { frame } => self.offer_answer(host::offer(image, frame, shelf, answer), frame),
             Call::Deliver => deliver_answer(host::deliver(image, shelf, out, body_out, answer), answer),
             Call::Yard { input } => Answer::Yard(yard(input)),

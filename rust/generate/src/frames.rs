@@ -1,12 +1,13 @@
 //! Frames for a record: sound ones, and ones that meet a check.
 
 use crate::records::{any_count, TOP};
+use crate::topics::TOPICS;
 use reference::draft::{repair, Draft};
 use reference::frame::{Entry, EXTRA, USER};
 use reference::random::Random;
 use reference::{Record, Refusal};
 
-/// A body of a length often at a bound, and never above it.
+/// A body of a length often at a bound, and never above it, of a topic often at a bound.
 pub fn any_body(random: &mut Random) -> Vec<u8> {
     let length = match random.below(6) {
         0 | 1 => 0,
@@ -14,7 +15,11 @@ pub fn any_body(random: &mut Random) -> Vec<u8> {
         3 => random.pick(&[1, 63]),
         _ => random.below(65),
     };
-    random.bytes(length)
+    let mut body = random.bytes(length);
+    if let Some(topic) = body.first_mut().filter(|_| random.once_in(2)) {
+        *topic = random.pick(&TOPICS);
+    }
+    body
 }
 
 /// A node other than the one given.

@@ -4,6 +4,7 @@ use crate::case::{Buffers, Call, Case};
 use crate::images::{any_image, any_length};
 use crate::records::{any_cap, any_n};
 use crate::states::{any_state, parted_state, reach_limit, Runner, State};
+use crate::topics::any_class;
 use crate::trails::Trails;
 use crate::{frames, loads, records, shelves, yards};
 use reference::host::ANSWER;
@@ -88,9 +89,10 @@ impl Generator {
         damage_record(random, &mut state.record, 16);
         let to = any_destination(random, &state.record);
         let body = any_body(random);
+        let class = any_class(random, &body);
         let (image, made) = any_image(random, &state.record, 12);
         let buffers = Buffers { out: any_output(random), answer: any_answer(random), ..Buffers::default() };
-        Case { image, made, call: Call::Send { to, body }, buffers }
+        Case { image, made, call: Call::Send { to, class, body }, buffers }
     }
 
     /// An offer with any of its checks met at times.

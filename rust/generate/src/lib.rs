@@ -11,6 +11,7 @@ pub mod records;
 pub mod shelves;
 pub mod states;
 pub mod texts;
+pub mod topics;
 pub mod trails;
 pub mod yards;
 

@@ -3,6 +3,7 @@
 use crate::frames;
 use crate::records::{any_cap, any_count, any_n, any_record, TOP};
 use crate::shelves::{any_shelf, frame_at};
+use crate::topics::allowed_class;
 use reference::draft::Draft;
 use reference::frame::USER;
 use reference::list::List;
@@ -59,7 +60,8 @@ impl Runner {
             0 => {
                 let to = random.below(self.list.n());
                 let body = frames::any_body(random);
-                self.list.send(node, to, &body);
+                let class = allowed_class(random, &body);
+                self.list.send(node, to, class, &body);
             }
             1 => self.offer(random),
             _ if random.once_in(self.rest) => {

@@ -3,6 +3,7 @@
 use crate::records::any_cap;
 use crate::texts::damage_byte;
 use reference::list::List;
+use reference::plant::CLASS;
 use reference::random::Random;
 use reference::yard::{INPUT, ISSUES};
 
@@ -65,7 +66,7 @@ impl Writer {
     fn send(&mut self, i: usize, j: usize, random: &mut Random) {
         let line = format!("S {} {}", padded(random, i), padded(random, j));
         if self.add(line) && i < self.list.n() {
-            self.list.send(i, j, &[]);
+            self.list.send(i, j, CLASS, &[]);
         }
     }
 

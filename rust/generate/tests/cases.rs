@@ -14,7 +14,7 @@ use std::collections::{BTreeMap, BTreeSet};
 /// The checks of each call.
 const CHECKS: [(&str, &[u8]); 9] = [
     ("set-up", &[1, 20]),
-    ("send", &[3, 5, 6, 7, 20]),
+    ("send", &[3, 5, 6, 7, 20, 21]),
     ("offer", &[3, 4, 8, 9, 10, 11, 12, 13, 14, 15, 16, 20]),
     ("deliver", &[3, 4, 5, 20]),
     ("yard", &[6, 14, 15, 16, 17]),

@@ -21,6 +21,7 @@ extern "C" {
         image: *mut u8,
         image_length: usize,
         to: usize,
+        node_class: usize,
         body: *const u8,
         body_length: usize,
         out: *mut u8,
@@ -68,11 +69,11 @@ pub fn set_up(image: &mut [u8], me: usize, n: usize, cap: usize) -> u8 {
     unsafe { node_set_up(image.as_mut_ptr(), image.len(), me, n, cap) }
 }
 
-/// Send: 20, 3, 5, 6, 7.
-pub fn send(image: &mut [u8], to: usize, body: &[u8], out: &mut [u8], answer: &mut [u8]) -> u8 {
+/// Send, as a node of this class, which is any number: 20, 3, 5, 6, 7, 21.
+pub fn send(image: &mut [u8], to: usize, class: usize, body: &[u8], out: &mut [u8], answer: &mut [u8]) -> u8 {
     let lengths = (image.len(), body.len(), out.len(), answer.len());
     let (image, body, out, answer) = (image.as_mut_ptr(), body.as_ptr(), out.as_mut_ptr(), answer.as_mut_ptr());
-    unsafe { node_send(image, lengths.0, to, body, lengths.1, out, lengths.2, answer, lengths.3) }
+    unsafe { node_send(image, lengths.0, to, class, body, lengths.1, out, lengths.2, answer, lengths.3) }
 }
 
 /// Offer: 20, 3, 4, 8 to 16.

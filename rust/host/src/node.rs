@@ -1,6 +1,7 @@
 //! A node of a plant.
 
 use crate::answers::{Delivered, Output, Sent};
+use crate::class::Class;
 use crate::lent;
 use crate::refusal::Refusal;
 use crate::sizes::{ANSWER, IMAGE, STORED};
@@ -18,18 +19,18 @@ const HELD_AT: usize = 627;
 /// Nothing is shared between nodes, so different nodes may be used on different threads.
 ///
 /// ```
-/// use host::{Delivered, Kind, Node, Output};
+/// use host::{Class, Delivered, Kind, Node, Output};
 ///
 /// let (mut cover, mut camera) = (Node::set_up(0, 4, 4)?, Node::set_up(2, 4, 4)?);
 /// let mut output = Output::new();
-/// let sent = cover.send(2, b"closed", &mut output)?;
+/// let sent = cover.send(2, Class::Mover, b"\x02closed", &mut output)?;
 /// let frames: Vec<Vec<u8>> = sent.frames().map(|frame| frame.bytes().to_vec()).collect();
 /// // Here the host stores the node with these frames, and transmits them.
 /// for frame in &frames {
 ///     camera.offer(frame)?;
 /// }
 /// while let Delivered::Frame(delivery) = camera.deliver(&mut output)? {
-///     assert_eq!((delivery.kind, delivery.from, delivery.body), (Kind::User, 0, &b"closed"[..]));
+///     assert_eq!((delivery.kind, delivery.from, delivery.body), (Kind::User, 0, &b"\x02closed"[..]));
 /// }
 /// # Ok::<(), host::Refusal>(())
 /// ```
@@ -51,12 +52,28 @@ impl Node {
         Ok(Node { bytes: boxed(bytes) })
     }
 
-    /// Sends a body to a node. The frames that were issued have to be kept until they are delivered, stored together
-    /// with the node, and then transmitted.
-    pub fn send<'o>(&mut self, to: usize, body: &[u8], output: &'o mut Output) -> Result<Sent<'o>, Refusal> {
+    /// Sends a body to a node, as a node of the class that this one has. The body begins with its
+    /// [topic](crate::topics), which the class must have the right to send. The frames that were issued have to be kept
+    /// until they are delivered, stored together with the node, and then transmitted.
+    ///
+    /// ```
+    /// use host::{Class, Node, Output, Refusal};
+    ///
+    /// let (mut panel, mut output) = (Node::set_up(1, 4, 4)?, Output::new());
+    /// assert_eq!(panel.send(0, Class::Panel, b"\x01open", &mut output).unwrap_err(), Refusal::NoRight);
+    /// assert!(panel.send(0, Class::Panel, b"\x80please open", &mut output).is_ok());
+    /// # Ok::<(), Refusal>(())
+    /// ```
+    pub fn send<'o>(
+        &mut self,
+        to: usize,
+        class: Class,
+        body: &[u8],
+        output: &'o mut Output,
+    ) -> Result<Sent<'o>, Refusal> {
         let mut answer = [0; ANSWER];
         let (image, _) = self.parts();
-        Refusal::unless_zero(lent::send(image, to, body, &mut output.frames, &mut answer))?;
+        Refusal::unless_zero(lent::send(image, to, class.number(), body, &mut output.frames, &mut answer))?;
         Ok(Sent::read(&answer, output))
     }
 

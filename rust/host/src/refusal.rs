@@ -50,11 +50,13 @@ pub enum Refusal {
     Trail = 19,
     /// The image has another length, a bad trailer, or a record that breaks a rule.
     Image = 20,
+    /// The class has no right to the body's topic, or is no class.
+    NoRight = 21,
 }
 
 impl Refusal {
     /// Every refusal of the host's calls, by rising number.
-    pub const ALL: [Refusal; 17] = [
+    pub const ALL: [Refusal; 18] = [
         Refusal::OutOfRange,
         Refusal::TooShort,
         Refusal::WrongQueue,
@@ -72,6 +74,7 @@ impl Refusal {
         Refusal::QueueFull,
         Refusal::Trail,
         Refusal::Image,
+        Refusal::NoRight,
     ];
 
     /// The refusal's number.
@@ -113,6 +116,7 @@ impl Refusal {
             Refusal::QueueFull => "16 frames are held, or 15 are and this one has to wait",
             Refusal::Trail => "the window is not 1 to 64, or the frame there or to be written is not sound",
             Refusal::Image => "the image has another length, a bad trailer, or a record that breaks a rule",
+            Refusal::NoRight => "the class is above 3, or has no right to the topic, the body's first byte",
         }
     }
 
@@ -137,6 +141,7 @@ impl Refusal {
             Refusal::Delivered | Refusal::Held => "nothing, drop it",
             Refusal::QueueFull => "deliver until there is none, then offer it again",
             Refusal::Trail => "choose another window, or see docs/trail.md",
+            Refusal::NoRight => "choose a topic that this node's class may send, or leave it to a node that may",
         }
     }
 }

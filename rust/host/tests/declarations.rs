@@ -9,6 +9,8 @@ use host::sizes::{ANSWER, BODY, IMAGE, OUTPUT, QUEUE};
 
 /// What stands in lent bytes before a call.
 const MARK: u8 = 0xA5;
+/// The class that may send a body that begins with a small letter.
+const ARCHIVE: usize = 2;
 
 /// What the node's calls are lent, each longer than it need be.
 struct Lent {
@@ -45,9 +47,9 @@ impl Lent {
     }
 
     /// A send with these lengths.
-    fn send(&mut self, lengths: Lengths, to: usize, body: &[u8]) -> u8 {
+    fn send(&mut self, lengths: Lengths, to: usize, class: usize, body: &[u8]) -> u8 {
         let [image, _, out, _, answer] = lengths;
-        lent::send(&mut self.image[..image], to, body, &mut self.out[..out], &mut self.answer[..answer])
+        lent::send(&mut self.image[..image], to, class, body, &mut self.out[..out], &mut self.answer[..answer])
     }
 
     /// An offer with these lengths.
@@ -96,16 +98,28 @@ fn send() {
     let mut lent = Lent::new(2, 3, 4);
     let before = lent.bytes();
     for (lengths, number) in wrong(&[0, 2, 4]) {
-        assert_eq!(lent.send(lengths, 1, b"abcde"), number, "{lengths:?}");
+        assert_eq!(lent.send(lengths, 1, ARCHIVE, b"abcde"), number, "{lengths:?}");
     }
-    assert_eq!([2, 3, (1 << 32) + 1].map(|to| lent.send(RIGHT, to, b"abcde")), [6; 3]);
-    assert_eq!(lent.send(RIGHT, 1, &[0; BODY + 1]), 7);
+    assert_eq!([2, 3, (1 << 32) + 1].map(|to| lent.send(RIGHT, to, ARCHIVE, b"abcde")), [6; 3]);
+    assert_eq!(lent.send(RIGHT, 1, ARCHIVE, &[b'a'; BODY + 1]), 7);
+    let other = [0, 1, 3, 4, (1 << 8) + ARCHIVE, (1 << 32) + ARCHIVE, (1 << 63) + ARCHIVE, usize::MAX];
+    assert_eq!(other.map(|class| lent.send(RIGHT, 1, class, b"abcde")), [21; 8]);
     assert_eq!(lent.bytes(), before);
-    assert_eq!(lent.send(RIGHT, 1, b"abcde"), 0);
+    assert_eq!(lent.send(RIGHT, 1, ARCHIVE, b"abcde"), 0);
     let frame = spelled(1, 2, 1, 3, 4, &[], b"abcde");
     assert!(lent.out.starts_with(&frame) && lent.out[frame.len()..].iter().all(|byte| *byte == MARK));
     assert_eq!(lent.answer, [0, 0, 0, 0, 0, 0, 0, 0, 0, frame.len() as u8, 0, MARK]);
     assert_eq!(lent.image[3 + 4 * (12 * 2 + 1)], 1);
+}
+
+#[test]
+fn send_by_each_class() {
+    let numbers = [[0, 21, 21, 0], [21, 0, 21, 0], [21, 21, 0, 0], [21, 21, 21, 0], [21; 4]];
+    for (class, numbers) in numbers.into_iter().enumerate() {
+        // A motion, an exposure, a filing and a note.
+        let by = |class| [0, 32, 96, 128].map(|topic| Lent::new(2, 3, 4).send(RIGHT, 1, class, &[topic, 0]));
+        assert_eq!((by(class), by((1 << 32) + class)), (numbers, [21; 4]), "{class}");
+    }
 }
 
 #[test]
@@ -143,7 +157,7 @@ fn deliver_of_none() {
 #[test]
 fn deliver_writes_body_and_extra_frames() {
     let mut lent = Lent::new(0, 3, 3);
-    assert_eq!([1, 2].map(|to| lent.send(RIGHT, to, &[])), [0; 2]);
+    assert_eq!([1, 2].map(|to| lent.send(RIGHT, to, 3, &[])), [0; 2]);
     (lent.out, lent.answer) = (vec![MARK; OUTPUT + 1], vec![MARK; ANSWER + 1]);
     assert_eq!(lent.offer(RIGHT, &spelled(1, 2, 0, 3, 3, &[(2, 1, 4)], b"abcde")), 0);
     assert_eq!(lent.deliver(RIGHT), 0);

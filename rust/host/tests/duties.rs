@@ -2,9 +2,9 @@
 
 mod common;
 
-use common::{before_an_extra, delivered, plant, send};
+use common::{before_an_extra, delivered, plant, send, spelled};
 use host::sizes::{ANSWER, HELD, IMAGE, OUTPUT, QUEUE};
-use host::{lent, Delivered, Frame, Node, Output, Refusal};
+use host::{lent, Class, Delivered, Frame, Node, Output, Refusal};
 
 /// The refusal of an offer that must be refused.
 fn refused(node: &mut Node, frame: &[u8]) -> Refusal {
@@ -182,6 +182,21 @@ fn nodes_with_another_n_or_cap_refuse_each_others_frames_with_10() {
     for (n, cap) in [(4, 4), (3, 4)] {
         assert_eq!(refused(&mut Node::set_up(1, n, cap).unwrap(), &frame), Refusal::OtherPlant);
     }
+}
+
+#[test]
+fn a_class_that_is_not_the_nodes_own_gives_a_frame_that_no_receiver_refuses() {
+    let (mut panel, mut cover, mut output) = (plant(3, 3).remove(0), plant(3, 3).remove(0), Output::new());
+    let motion = b"\x01closing";
+    assert_eq!(panel.send(1, Class::Panel, motion, &mut output).unwrap_err(), Refusal::NoRight);
+    // The panel's host hands a mover's class: frame and node become those of a mover.
+    let frame = panel.send(1, Class::Mover, motion, &mut output).unwrap().issued.to_vec();
+    assert_eq!(frame, spelled(1, 0, 1, 3, 3, &[], motion));
+    assert_eq!(cover.send(1, Class::Mover, motion, &mut output).unwrap().issued, frame);
+    assert!(panel.bytes() == cover.bytes());
+    let mut receiver = Node::set_up(1, 3, 3).unwrap();
+    receiver.offer(&frame).expect("the class is no part of the frame");
+    assert_eq!(delivered(&mut receiver), [motion]);
 }
 
 #[test]

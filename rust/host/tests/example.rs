@@ -13,7 +13,7 @@ fn the_detour_in_c_prints_what_is_stored() {
     assert_eq!(printed, stored);
 }
 
-/// The story is told: a frame waits, and is delivered behind the one that was sent before it.
+/// The story is told: a frame waits, and is delivered behind the one that was sent before it; a motion is refused.
 #[test]
 fn the_stored_story_has_a_frame_that_waits_and_then_comes_second() {
     let stored = std::fs::read_to_string(path("examples/host.out")).expect("examples/host.out can be read");
@@ -25,6 +25,7 @@ fn the_stored_story_has_a_frame_that_waits_and_then_comes_second() {
         "1 held at archive, waiting for an earlier frame",
         "archive hears \"closing\" from cover",
         "archive hears \"exposure ended\" from camera",
+        "camera would say \"dome turning\" to cover: refused with 21",
         "extra, from cover",
         "all 11 frames delivered\n",
     ]

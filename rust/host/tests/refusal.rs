@@ -5,7 +5,7 @@ use std::collections::BTreeSet;
 use std::error::Error;
 
 /// The numbers that the host's calls and the trail's give.
-const NUMBERS: [u8; 17] = [1, 3, 4, 5, 6, 7, 8, 9, 10, 11, 12, 13, 14, 15, 16, 19, 20];
+const NUMBERS: [u8; 18] = [1, 3, 4, 5, 6, 7, 8, 9, 10, 11, 12, 13, 14, 15, 16, 19, 20, 21];
 
 #[test]
 fn numbers_are_document_01s_and_rise() {

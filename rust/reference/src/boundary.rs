@@ -1,10 +1,10 @@
 //! Lists that reach the largest frame, send and delivery, and a full shelf. They run on anything that takes a list's
-//! steps, so that one implementation can be tested by them and two can be compared. And loads that come to the end of
-//! their issues, or have halves in their shares.
+//! steps, so that one implementation can be tested by them and two can be compared. And sends on both sides of 21, and
+//! loads that come to the end of their issues, or have halves in their shares.
 
 use crate::list::List;
 use crate::node::Delivery;
-use crate::{DeliverAnswer, OfferAnswer, SendAnswer};
+use crate::{DeliverAnswer, OfferAnswer, Refusal, SendAnswer};
 use std::ops::RangeInclusive;
 
 /// Seeds of loads with 4 nodes and 400 draws that come to the end of their 180 issues under cap 4, which very few do: 177
@@ -15,10 +15,89 @@ pub const CROWDED_LOADS: [u32; 4] = [4137459756, 678678812, 3541979015, 12640737
 /// and 1 extras in 8 user frames, 9 and 3 in 24, 3 and 1 in 40. In the last, 1 in 8 goes down.
 pub const HALF_LOADS: [&str; 4] = ["4 1923450 64\n", "4 24 120\n", "4 1 125\n", "3 41 48\n"];
 
+/// The class of a mover.
+const MOVER: usize = 0;
+/// The class of a camera.
+const CAMERA: usize = 1;
+/// The class of a panel.
+const PANEL: usize = 3;
+
+/// Both sides of every bound between topic groups.
+const TOPICS: [u8; 8] = [0, 31, 32, 95, 96, 127, 128, 255];
+/// The place of topic 128, which an empty body has, among these.
+const EMPTY: usize = 6;
+
+/// Classes, huge ones too that are 0 when cut to a byte or times 4, and the number that a send of each topic gives.
+const NUMBERS: [(usize, [Refusal; 8]); 8] = [
+    (MOVER, [0, 0, 21, 21, 21, 21, 0, 0]),
+    (CAMERA, [21, 21, 0, 0, 21, 21, 0, 0]),
+    (2, [21, 21, 21, 21, 0, 0, 0, 0]),
+    (PANEL, [21, 21, 21, 21, 21, 21, 0, 0]),
+    (4, [21; 8]),
+    (256, [21; 8]),
+    (usize::MAX / 4 + 1, [21; 8]),
+    (usize::MAX, [21; 8]),
+];
+
+/// A send at a fresh node 0 of two, or at one that has sent, and the number that it gives, 0 for none.
+#[derive(Clone, Debug, PartialEq, Eq)]
+pub struct SendCase {
+    pub to: usize,
+    pub class: usize,
+    pub body: Vec<u8>,
+    pub number: Refusal,
+}
+
+/// Sends of both sides of every topic bound and of an empty body by every class, and sends that meet two checks.
+pub fn sends_by_class() -> Vec<SendCase> {
+    let mut cases = other_sends();
+    for (class, numbers) in NUMBERS {
+        cases.push(SendCase { to: 1, class, body: Vec::new(), number: numbers[EMPTY] });
+        for (topic, number) in TOPICS.into_iter().zip(numbers) {
+            let long = [&[topic][..], &[!topic; 63]].concat();
+            cases.extend([vec![topic], long].map(|body| SendCase { to: 1, class, body, number }));
+        }
+    }
+    cases
+}
+
+/// Sends that meet 6 or 7 and 21 together, and the letter "O", which is a camera's, once, 64 and 65 times.
+fn other_sends() -> Vec<SendCase> {
+    let case = |to, class, body: &[u8], number| SendCase { to, class, body: body.to_vec(), number };
+    vec![
+        case(1, PANEL, &[0; 65], 7),
+        case(1, usize::MAX, &[255; 65], 7),
+        case(0, PANEL, &[0], 6),
+        case(2, usize::MAX, &[], 6),
+        case(usize::MAX, 4, &[255; 65], 6),
+        case(1, CAMERA, b"O", 0),
+        case(1, CAMERA, &[b'O'; 64], 0),
+        case(1, CAMERA, &[b'O'; 65], 7),
+        case(1, MOVER, b"O", 21),
+    ]
+}
+
+/// Makes these sends at node 0 of two: a refused one issues nothing, and another one frame with its body.
+pub fn who_may_say_what(list: &mut impl Steps) {
+    for case in sends_by_class() {
+        let before = list.issued().len();
+        let number = match list.send(0, case.to, case.class, &case.body) {
+            SendAnswer::Refused(number) => number,
+            SendAnswer::Sent { .. } => 0,
+        };
+        assert_eq!(number, case.number, "{case:?}");
+        let issued = &list.issued()[before..];
+        assert_eq!(issued.len(), usize::from(number == 0), "{case:?}");
+        let has_body =
+            |frame: &Vec<u8>| frame[4] as usize == case.body.len() && frame[..frame.len() - 4].ends_with(&case.body);
+        assert!(issued.iter().all(has_body), "{case:?}");
+    }
+}
+
 /// What takes a list's steps.
 pub trait Steps {
-    /// A send at node i.
-    fn send(&mut self, i: usize, j: usize, body: &[u8]) -> SendAnswer;
+    /// A send at node i with any class.
+    fn send(&mut self, i: usize, j: usize, class: usize, body: &[u8]) -> SendAnswer;
     /// An offer of an issued frame, counted from 0, at a node.
     fn offer(&mut self, node: usize, issue: usize) -> OfferAnswer;
     /// A deliver at a node.
@@ -28,8 +107,8 @@ pub trait Steps {
 }
 
 impl Steps for List {
-    fn send(&mut self, i: usize, j: usize, body: &[u8]) -> SendAnswer {
-        List::send(self, i, j, body)
+    fn send(&mut self, i: usize, j: usize, class: usize, body: &[u8]) -> SendAnswer {
+        List::send(self, i, j, class, body)
     }
 
     fn offer(&mut self, node: usize, issue: usize) -> OfferAnswer {
@@ -48,7 +127,7 @@ impl Steps for List {
 /// Sends with an empty body, which must be taken; gives the issue.
 fn send_ok(list: &mut impl Steps, i: usize, j: usize) -> usize {
     let issue = list.issued().len();
-    assert!(matches!(list.send(i, j, &[]), SendAnswer::Sent { extras: 0, .. }));
+    assert!(matches!(list.send(i, j, MOVER, &[]), SendAnswer::Sent { extras: 0, .. }));
     issue
 }
 
@@ -82,7 +161,7 @@ fn know(list: &mut impl Steps, last: usize) {
 /// A frame of 802 bytes (n 12, cap 121 or more), held at node 5, where it waits; gives its issue.
 pub fn frame_of_802(list: &mut impl Steps) -> usize {
     know(list, 11);
-    assert_eq!(list.send(0, 5, &[0xFF; 64]), SendAnswer::Sent { bytes: 802, extras: 0 });
+    assert_eq!(list.send(0, 5, PANEL, &[0xFF; 64]), SendAnswer::Sent { bytes: 802, extras: 0 });
     let issue = list.issued().len() - 1;
     assert_eq!(list.offer(5, issue), OfferAnswer::Held { held: 1, deliverable: false });
     assert_eq!(list.deliver(5), DeliverAnswer::None { looked: 1 });
@@ -92,7 +171,7 @@ pub fn frame_of_802(list: &mut impl Steps) -> usize {
 /// A send of 814 bytes in all (n 12, cap 110); gives the issue of its extra frame.
 pub fn send_of_814(list: &mut impl Steps) -> usize {
     know(list, 10);
-    assert_eq!(list.send(0, 11, &[1; 64]), SendAnswer::Sent { bytes: 814, extras: 1 });
+    assert_eq!(list.send(0, 11, MOVER, &[1; 64]), SendAnswer::Sent { bytes: 814, extras: 1 });
     list.issued().len() - 1
 }
 
@@ -119,7 +198,7 @@ pub fn delivery_of_504(list: &mut impl Steps) {
         bring(list, issue);
     }
     let issue = list.issued().len();
-    assert!(matches!(list.send(11, 0, &[]), SendAnswer::Sent { extras: 1, .. }));
+    assert!(matches!(list.send(11, 0, MOVER, &[]), SendAnswer::Sent { extras: 1, .. }));
     let delivery = bring(list, issue);
     assert_eq!((delivery.bytes, delivery.extras), (504, 7));
 }
@@ -129,7 +208,7 @@ pub fn sixteen_of_802(list: &mut impl Steps) {
     know(list, 11);
     let start = list.issued().len();
     for _ in 0..16 {
-        list.send(0, 5, &[9; 64]);
+        list.send(0, 5, MOVER, &[9; 64]);
         for x in (1..12).filter(|x| *x != 5) {
             send_ok(list, x, 5);
             let issue = send_ok(list, x, 0);

@@ -3,6 +3,7 @@
 
 use crate::frame::{Frame, USER};
 use crate::node::Delivery;
+use crate::rights::{may_send, Table};
 use std::collections::HashMap;
 
 /// What is wrong, in words.
@@ -19,6 +20,8 @@ type Past = Vec<u64>;
 struct Issue {
     kind: u8,
     to: usize,
+    /// The class handed to its send; nothing in an extra.
+    class: Option<usize>,
     /// The body given to its send; none in an extra.
     body: Vec<u8>,
     /// The event of the step that issued it.
@@ -49,11 +52,11 @@ impl History {
     }
 
     /// An accepted send and the frames that it issued: the user frame first, then extras.
-    pub fn send(&mut self, node: usize, to: usize, body: &[u8], issued: &[Vec<u8>]) -> Result<(), Wrong> {
+    pub fn send(&mut self, node: usize, to: usize, class: usize, body: &[u8], issued: &[Vec<u8>]) -> Result<(), Wrong> {
         let event = self.event(node, None);
         let (user, extras) = issued.split_first().ok_or("a send issued nothing")?;
         ensure(user[0] == USER && user[2] as usize == to, || format!("a send to {to} issued {user:02X?} first"))?;
-        self.issue(event, node, body, user)?;
+        self.issue(event, node, Some(class), body, user)?;
         self.issue_extras(event, node, extras)
     }
 
@@ -138,6 +141,22 @@ impl History {
         Ok(())
     }
 
+    /// In the log, which has the issued frames in their order, each user frame was issued by a send whose class may send
+    /// its body by the table, none of motion by a class other than 0, and an extra frame has no body.
+    pub fn rights_kept(&self, table: &Table, log: &[Vec<u8>]) -> Result<(), Wrong> {
+        let (logged, issued) = (log.len(), self.issues.len());
+        ensure(logged == issued, || format!("{logged} frames are in the log, and {issued} were issued"))?;
+        for (issue, bytes) in log.iter().enumerate() {
+            let frame = Frame::first_of(bytes).filter(|frame| frame.bytes().len() == bytes.len());
+            let frame = frame.ok_or_else(|| format!("issue {issue} is not whole in the log"))?;
+            let Issue { kind, class, .. } = self.issues[issue];
+            let same = frame.kind() == kind && self.find(frame.from(), frame.to(), frame.number()) == Some(issue);
+            ensure(same, || format!("issue {issue} is another frame in the log"))?;
+            check_rights(table, issue, class, body_of(bytes))?;
+        }
+        Ok(())
+    }
+
     /// Adds an event: an earlier accepted step of one node comes before a later one, and a user send before that
     /// message's delivery.
     fn event(&mut self, node: usize, sent: Option<usize>) -> usize {
@@ -161,23 +180,47 @@ impl History {
     fn issue_extras(&mut self, event: usize, node: usize, extras: &[Vec<u8>]) -> Result<(), Wrong> {
         for extra in extras {
             ensure(extra[0] != USER, || format!("{extra:02X?} is no extra"))?;
-            self.issue(event, node, &[], extra)?;
+            self.issue(event, node, None, &[], extra)?;
         }
         Ok(())
     }
 
     /// Takes up a frame that an event's step issued at a node: it carries at most cap entries, and no other frame has
     /// its from, to and number.
-    fn issue(&mut self, event: usize, node: usize, body: &[u8], bytes: &[u8]) -> Result<(), Wrong> {
+    fn issue(
+        &mut self,
+        event: usize,
+        node: usize,
+        class: Option<usize>,
+        body: &[u8],
+        bytes: &[u8],
+    ) -> Result<(), Wrong> {
         let frame = Frame::first_of(bytes).ok_or("an issued frame is not whole")?;
         let (kind, from, to, number) = (frame.kind(), frame.from(), frame.to(), frame.number());
         ensure(from == node, || format!("{node} issued a frame from {from}"))?;
         ensure(frame.entry_count() <= self.cap, || format!("a frame carries {} entries", frame.entry_count()))?;
         let other = self.labels.insert((from, to, number), self.issues.len());
         ensure(other.is_none(), || format!("two frames from {from} to {to} have number {number}"))?;
-        self.issues.push(Issue { kind, to, body: body.to_vec(), event, held: false, delivered: None });
+        self.issues.push(Issue { kind, to, class, body: body.to_vec(), event, held: false, delivered: None });
         Ok(())
     }
+}
+
+/// A frame's body, read from its bytes: b of them behind e entries.
+fn body_of(frame: &[u8]) -> &[u8] {
+    let (e, b) = (frame[3] as usize, frame[4] as usize);
+    &frame[8 + 6 * e..8 + 6 * e + b]
+}
+
+/// The class of an issue's send may send the body by the table, and motion only as class 0; without a send there is no
+/// body.
+fn check_rights(table: &Table, issue: usize, class: Option<usize>, body: &[u8]) -> Result<(), Wrong> {
+    let Some(class) = class else {
+        return ensure(body.is_empty(), || format!("issue {issue} is an extra with a body"));
+    };
+    let motion = body.first().is_some_and(|topic| *topic < 32);
+    ensure(!motion || class == 0, || format!("issue {issue} is motion from class {class}"))?;
+    ensure(may_send(table, class, body), || format!("issue {issue} came from class {class} without the right"))
 }
 
 /// Says what is wrong unless a condition holds.

@@ -28,13 +28,13 @@ pub fn set_up(image: &mut [u8], me: usize, n: usize, cap: usize) -> u8 {
     0
 }
 
-/// Send: 20, 3, 5–7.
-pub fn send(image: &mut [u8], to: usize, body: &[u8], out: &mut [u8], answer: &mut [u8]) -> u8 {
+/// Send: 20, 3, 5–7, 21.
+pub fn send(image: &mut [u8], to: usize, class: usize, body: &[u8], out: &mut [u8], answer: &mut [u8]) -> u8 {
     let Lent { image, mut record, answer } = match Lent::read(image, answer) {
         Ok(lent) => lent,
         Err(number) => return number,
     };
-    match send_on(&mut record, to, body, out) {
+    match send_on(&mut record, to, class, body, out) {
         SendAnswer::Refused(number) => refusal(number),
         SendAnswer::Sent { bytes, extras } => {
             record.write_image(image);

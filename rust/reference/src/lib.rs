@@ -20,6 +20,7 @@ pub mod program;
 pub mod random;
 pub mod record;
 pub mod recount;
+pub mod rights;
 pub mod shelf;
 pub mod text;
 pub mod trail;

@@ -37,11 +37,11 @@ impl List {
         Frame::first_of(&self.issued[issue]).expect("an issued frame is whole")
     }
 
-    /// A send at node i.
-    pub fn send(&mut self, i: usize, j: usize, body: &[u8]) -> SendAnswer {
+    /// A send at node i with any class.
+    pub fn send(&mut self, i: usize, j: usize, class: usize, body: &[u8]) -> SendAnswer {
         let mut out = [0; OUTPUT];
         let seat = &mut self.seats[i];
-        let (answer, record) = send(seat.record, j, body, &mut out);
+        let (answer, record) = send(seat.record, j, class, body, &mut out);
         seat.record = record;
         if let SendAnswer::Sent { bytes, .. } = answer {
             self.note_issued(&out[..bytes]);

@@ -1,6 +1,7 @@
 //! The calls of a node: set-up, send, offer and deliver.
 
 use crate::frame::{refuse, Frame, Output, USER};
+use crate::rights::{may_send, OURS};
 use crate::{shelf, Record, Refusal};
 
 /// Frame output (send, deliver) has at least this many bytes.
@@ -62,15 +63,15 @@ pub fn set_up(me: usize, n: usize, cap: usize) -> (Result<(), Refusal>, Record) 
     }
 }
 
-/// Send from me to a destination.
-pub fn send(mut record: Record, to: usize, body: &[u8], out: &mut [u8]) -> (SendAnswer, Record) {
-    (send_on(&mut record, to, body, out), record)
+/// Send from me, a node of this class, to a destination.
+pub fn send(mut record: Record, to: usize, class: usize, body: &[u8], out: &mut [u8]) -> (SendAnswer, Record) {
+    (send_on(&mut record, to, class, body, out), record)
 }
 
 /// Send on a record where it stands, which a refusal leaves: the frame carries every non-zero entry of M, column to is
-/// treated, then trim.
-pub fn send_on(record: &mut Record, to: usize, body: &[u8], out: &mut [u8]) -> SendAnswer {
-    if let Err(number) = check_send(record, to, body, out) {
+/// treated, then trim, and the class is no part of any frame.
+pub fn send_on(record: &mut Record, to: usize, class: usize, body: &[u8], out: &mut [u8]) -> SendAnswer {
+    if let Err(number) = check_send(record, to, class, body, out) {
         return SendAnswer::Refused(number);
     }
     let mut output = Output::new(out);
@@ -80,13 +81,14 @@ pub fn send_on(record: &mut Record, to: usize, body: &[u8], out: &mut [u8]) -> S
     SendAnswer::Sent { bytes: output.written(), extras }
 }
 
-/// Send checks 2, 3, 5–7.
-fn check_send(record: &Record, to: usize, body: &[u8], out: &[u8]) -> Result<(), Refusal> {
+/// Send checks 2, 3, 5–7, 21.
+fn check_send(record: &Record, to: usize, class: usize, body: &[u8], out: &[u8]) -> Result<(), Refusal> {
     refuse(!record.keeps_rules(), 2)?;
     refuse(out.len() < OUTPUT, 3)?;
     refuse(record.is_at_limit(), 5)?;
     refuse(to == record.me as usize || to >= record.n as usize, 6)?;
-    refuse(body.len() > Record::BODY, 7)
+    refuse(body.len() > Record::BODY, 7)?;
+    refuse(!may_send(&OURS, class, body), 21)
 }
 
 /// While more than cap entries are non-zero, issues an extra frame for the fullest column and treats it as in a send.

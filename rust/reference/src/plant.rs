@@ -8,6 +8,8 @@ use std::ops::RangeInclusive;
 
 /// Nodes that a plant may have.
 pub const NODES: RangeInclusive<usize> = 2..=4;
+/// The class of every send of a plant.
+pub const CLASS: usize = 0;
 
 /// User frames, extras, frames delivered, delays (frames that were not deliverable when their offer was accepted), and
 /// the extras' [`share`].
@@ -69,7 +71,7 @@ impl Plant {
         if !self.has_room() {
             return None;
         }
-        let answer = self.list.send(i, j, &[]);
+        let answer = self.list.send(i, j, CLASS, &[]);
         if let SendAnswer::Sent { extras, .. } = answer {
             self.tally.count_issued(1, extras);
         }

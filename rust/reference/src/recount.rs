@@ -5,6 +5,7 @@
 use crate::frame::EXTRA;
 use crate::list::List;
 use crate::load::{self, Load};
+use crate::plant::CLASS;
 use crate::xorshift::Xorshift;
 use crate::yard::{self, Run, Step};
 use crate::{DeliverAnswer, OfferAnswer, Record, Refusal};
@@ -141,7 +142,7 @@ impl Walk {
         let room = issued + n <= self.issues;
         match step {
             Step::Send(i, j) if i < n && room => {
-                self.list.send(i, j, &[]);
+                self.list.send(i, j, CLASS, &[]);
             }
             Step::Offer(m) if (1..=issued).contains(&m) => self.offer(m - 1),
             Step::Deliver(node) if node < n && room => self.deliver(node),

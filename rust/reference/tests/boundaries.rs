@@ -23,7 +23,7 @@ fn a_frame_of_802_bytes() {
 #[test]
 fn a_frame_of_12_bytes() {
     let mut list = start(2, 2);
-    assert_eq!(list.send(0, 1, &[]), SendAnswer::Sent { bytes: 12, extras: 0 });
+    assert_eq!(list.send(0, 1, 0, &[]), SendAnswer::Sent { bytes: 12, extras: 0 });
     let delivery = bring(&mut list, 0);
     assert_eq!((delivery.kind, delivery.number, delivery.body), (USER, 1, 0));
 }

@@ -12,7 +12,7 @@ const ORDER: [u8; 13] = [0x01, 0x00, 0x01, 0x00, 0x01, 0x03, 0x03, 0x00, 0x4F, 0
 #[test]
 fn a_fresh_node_sends_one_letter() {
     let mut out = [0xEE; 2048];
-    let (answer, record) = send(fresh(0, 3, 3), 1, b"O", &mut out);
+    let (answer, record) = send(fresh(0, 3, 3), 1, 1, b"O", &mut out);
     assert_eq!(answer, SendAnswer::Sent { bytes: 13, extras: 0 });
     assert_eq!(out[..13], ORDER);
     assert_eq!(record, with(0, 3, 3, &[(0, 1, 1)], &[]));
@@ -36,16 +36,16 @@ fn set_up_takes_caps_to_n_times_n() {
 
 #[test]
 fn body_and_destination() {
-    assert_eq!(send_number(fresh(0, 3, 3), 1, &[7; 64], 2048), 0);
-    assert_eq!(send_number(fresh(0, 3, 3), 1, &[7; 65], 2048), 7);
-    assert_eq!(send_number(fresh(0, 3, 3), 0, &[], 2048), 6);
+    assert_eq!(send_number(fresh(0, 3, 3), 1, 1, &[b'O'; 64], 2048), 0);
+    assert_eq!(send_number(fresh(0, 3, 3), 1, 1, &[b'O'; 65], 2048), 7);
+    assert_eq!(send_number(fresh(0, 3, 3), 0, 1, b"O", 2048), 6);
 }
 
 #[test]
 fn a_delivery_trims_the_lowest_of_the_fullest_columns() {
     let mut list = List::start(3, 3).unwrap();
     for (i, j) in [(0, 1), (0, 2), (1, 2), (1, 0), (2, 1), (2, 0)] {
-        assert!(matches!(list.send(i, j, &[]), SendAnswer::Sent { extras: 0, .. }));
+        assert!(matches!(list.send(i, j, 0, &[]), SendAnswer::Sent { extras: 0, .. }));
     }
     assert_eq!(list.offer(0, 3), OfferAnswer::Held { held: 1, deliverable: true });
     list.deliver(0);
@@ -65,7 +65,7 @@ fn a_delivery_trims_the_lowest_of_the_fullest_columns() {
 #[test]
 fn a_frame_offered_again() {
     let mut list = List::start(3, 3).unwrap();
-    list.send(0, 1, b"x");
+    list.send(0, 1, 2, b"x");
     assert_eq!(list.offer(1, 0), OfferAnswer::Held { held: 1, deliverable: true });
     assert_eq!(list.offer(1, 0), OfferAnswer::Refused(15));
     assert_eq!(list.deliver(1).1, b"x");
@@ -76,7 +76,7 @@ fn a_frame_offered_again() {
 fn the_sixteenth_place_is_for_a_deliverable_frame() {
     let mut list = List::start(3, 3).unwrap();
     for _ in 0..18 {
-        list.send(0, 1, &[]);
+        list.send(0, 1, 0, &[]);
     }
     for issue in 1..16 {
         assert_eq!(list.offer(1, issue), OfferAnswer::Held { held: issue, deliverable: false });
@@ -106,7 +106,7 @@ fn an_extra_delivered_changes_only_the_count() {
 fn a_send_clears_its_column_but_for_its_own_count() {
     let record = with(0, 4, 6, &[(0, 1, 2), (2, 1, 3), (3, 1, 4), (2, 3, 5)], &[]);
     let mut out = [0; 2048];
-    let (answer, after) = send(record, 1, &[], &mut out);
+    let (answer, after) = send(record, 1, 0, &[], &mut out);
     assert_eq!(answer, SendAnswer::Sent { bytes: 36, extras: 0 });
     assert_eq!(after, with(0, 4, 6, &[(0, 1, 3), (2, 3, 5)], &[]));
     let carried = frame::Frame::first_of(&out).unwrap();

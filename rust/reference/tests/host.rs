@@ -47,7 +47,7 @@ fn numbers(image: &[u8], answer_length: usize) -> [u8; 3] {
         number
     };
     [
-        number(&mut |image, _, answer| host::send(image, 0, &[], &mut out, answer)),
+        number(&mut |image, _, answer| host::send(image, 0, 0, &[], &mut out, answer)),
         number(&mut |image, shelf, answer| host::offer(image, &first(), shelf, answer)),
         number(&mut |image, shelf, answer| host::deliver(image, shelf, &mut [0; OUTPUT], &mut body, answer)),
     ]
@@ -100,8 +100,8 @@ fn an_answer_of_fewer_than_eleven_bytes_is_3_behind_20() {
 #[test]
 fn a_short_answer_stands_in_front_of_4_and_5() {
     let mut limit = with(1, 3, 3, &[], &[(2, 1_000_000_000)]).to_image();
-    assert_eq!(host::send(&mut limit, 1, &[0; 65], &mut [0; OUTPUT], &mut [0; 10]), 3);
-    assert_eq!(host::send(&mut limit, 1, &[0; 65], &mut [0; OUTPUT], &mut [0; 11]), 5);
+    assert_eq!(host::send(&mut limit, 1, 0, &[0; 65], &mut [0; OUTPUT], &mut [0; 10]), 3);
+    assert_eq!(host::send(&mut limit, 1, 0, &[0; 65], &mut [0; OUTPUT], &mut [0; 11]), 5);
     let mut image = fresh(1, 3, 3).to_image();
     let mut shelf = state().1;
     assert_eq!(host::offer(&mut image, &[], &mut shelf, &mut [0; 10]), 3);
@@ -111,7 +111,7 @@ fn a_short_answer_stands_in_front_of_4_and_5() {
 #[test]
 fn a_send_answers_with_extra_frames_and_frame_bytes_alone() {
     let (mut image, mut out, mut answer) = (fresh(0, 3, 3).to_image(), [MARK; OUTPUT], LEFT);
-    assert_eq!(host::send(&mut image, 1, b"O", &mut out, &mut answer), 0);
+    assert_eq!(host::send(&mut image, 1, 1, b"O", &mut out, &mut answer), 0);
     assert_eq!(answer[..ANSWER], [0, 0, 0, 0, 0, 0, 0, 0, 0, 13, 0]);
     assert_eq!(answer[ANSWER..], LEFT[ANSWER..]);
     assert_eq!(image, with(0, 3, 3, &[(0, 1, 1)], &[]).to_image());

@@ -1,9 +1,11 @@
 //! Whole lists over hostile links: loss, repetition, delay, reorder.
 
+use reference::draft::repair;
 use reference::frame::USER;
 use reference::history::History;
 use reference::list::List;
 use reference::random::Random;
+use reference::rights::OURS;
 use reference::*;
 
 /// A list with its history.
@@ -12,6 +14,10 @@ struct Run {
     history: History,
     /// For each issue, whether it is lost: it is then not brought for a long time.
     lost: Vec<bool>,
+    /// The issue and the class of each accepted send.
+    said: Vec<(usize, usize)>,
+    /// How many sends were refused with 21.
+    unsaid: usize,
     random: Random,
 }
 
@@ -20,7 +26,8 @@ impl Run {
         let mut random = Random::new(seed);
         let n = random.within(2, 12);
         let cap = if random.once_in(2) { n } else { random.within(n, n * n) };
-        Run { list: List::start(n, cap).unwrap(), history: History::start(n, cap), lost: Vec::new(), random }
+        let (list, history) = (List::start(n, cap).unwrap(), History::start(n, cap));
+        Run { list, history, lost: Vec::new(), said: Vec::new(), unsaid: 0, random }
     }
 
     /// Loses some of the frames that were issued since.
@@ -34,13 +41,46 @@ impl Run {
         let (i, j) = (self.random.below(self.list.n()), self.random.below(self.list.n() + 1));
         let length = self.random.below(67);
         let body = self.random.bytes(length);
-        match self.list.send(i, j, &body) {
+        let class = self.class(&body);
+        let issue = self.list.issued.len();
+        match self.list.send(i, j, class, &body) {
+            SendAnswer::Refused(21) => {
+                assert!(i != j && j < self.list.n() && length <= 64);
+                self.unsaid += 1;
+            }
             SendAnswer::Refused(number) => assert!(number == 6 || number == 7),
             SendAnswer::Sent { .. } => {
-                self.history.send(i, j, &body, &self.list.issued[self.lost.len()..]).unwrap();
+                self.history.send(i, j, class, &body, &self.list.issued[issue..]).unwrap();
+                self.said.push((issue, class));
                 self.lose();
             }
         }
+    }
+
+    /// Any class, mostly one that may send the body.
+    fn class(&mut self, body: &[u8]) -> usize {
+        if self.random.once_in(4) {
+            return self.random.pick(&[0, 1, 2, 3, 4, 256, usize::MAX]);
+        }
+        match body.first() {
+            Some(0..=31) => 0,
+            Some(32..=95) => 1,
+            Some(96..=127) => 2,
+            _ => self.random.below(4),
+        }
+    }
+
+    /// The rights are kept, and would not be if one of the sends had said something that its class may not.
+    fn check_rights(&mut self) {
+        let mut log = self.list.issued.clone();
+        self.history.rights_kept(&OURS, &log).unwrap();
+        let with_body = self.said.iter().copied().filter(|(issue, _)| log[*issue][4] > 0).collect::<Vec<_>>();
+        let (issue, class) = self.random.pick(&with_body);
+        let start = 8 + 6 * log[issue][3] as usize;
+        log[issue][start] = if class == 0 { self.random.within(32, 127) } else { self.random.below(32) } as u8;
+        repair(&mut log[issue]);
+        let wrong = self.history.rights_kept(&OURS, &log).unwrap_err();
+        assert!(wrong.starts_with(&format!("issue {issue} ")) && wrong.contains(&format!("class {class}")), "{wrong}");
     }
 
     /// Brings one of the newest or of all frames, mostly to its destination.
@@ -145,7 +185,7 @@ impl Run {
 
 #[test]
 fn lists_keep_their_promises() {
-    let (mut delivered, mut extras) = (0, 0);
+    let (mut delivered, mut extras, mut unsaid) = (0, 0, 0);
     for seed in 0..100 {
         let mut run = Run::start(seed);
         for step in 0..600 {
@@ -160,9 +200,11 @@ fn lists_keep_their_promises() {
         run.drain();
         run.history.check_causal_order().unwrap();
         run.check_numbers();
+        run.check_rights();
+        unsaid += run.unsaid;
         delivered += run.list.issued.len();
         extras += (0..run.list.issued.len()).filter(|issue| run.list.frame(*issue).kind() != USER).count();
     }
-    assert!(delivered > 10_000 && extras > 1_000, "{delivered} {extras}");
-    println!("{delivered} frames delivered, {extras} of them extras");
+    assert!(delivered > 10_000 && extras > 1_000 && unsaid > 1_000, "{delivered} {extras} {unsaid}");
+    println!("{delivered} frames delivered, {extras} of them extras, {unsaid} sends refused with 21");
 }

@@ -34,7 +34,7 @@ fn changed(change: impl FnOnce(&mut Draft)) -> u8 {
 /// All three calls give this number for the record, or none does.
 fn all_calls(record: Record) -> u8 {
     let shelf = empty_shelf();
-    let sent = send_number(record, 99, &[0; 65], 0);
+    let sent = send_number(record, 99, 0, &[0; 65], 0);
     assert_eq!(deliver_number(record, &shelf[1..], 0, 0), if sent == 2 { 2 } else { 3 });
     assert_eq!(offer_number(record, &[], &shelf[1..]), if sent == 2 { 2 } else { 3 });
     sent
@@ -104,13 +104,13 @@ fn check_2_cap() {
 #[test]
 fn check_3() {
     let shelf = empty_shelf();
-    assert_eq!([2047, 2048, 2049].map(|length| send_number(sample(), 0, &[], length)), [3, 0, 0]);
+    assert_eq!([2047, 2048, 2049].map(|length| send_number(sample(), 0, 0, &[], length)), [3, 0, 0]);
     assert_eq!([2047, 2048, 2049].map(|length| deliver_number(sample(), &shelf, length, 64)), [3, 0, 0]);
     assert_eq!([63, 64, 65].map(|length| deliver_number(sample(), &shelf, 2048, length)), [3, 0, 0]);
     let lengths = [0, 12_831, 12_832, 12_833];
     assert_eq!(lengths.map(|length| deliver_number(sample(), &vec![0; length], 2048, 64)), [3, 3, 0, 3]);
     assert_eq!(lengths.map(|length| offer_number(sample(), &sound().bytes(), &vec![0; length])), [3, 3, 0, 3]);
-    assert_eq!(send_number(sample(), 1, &[0; 65], 2047), 3);
+    assert_eq!(send_number(sample(), 1, 0, &[0; 65], 2047), 3);
 }
 
 /// The number that offer and deliver give for the sample with this shelf.
@@ -175,26 +175,29 @@ fn check_5() {
     let shelf = empty_shelf();
     let numbers = |m: &[(usize, usize, u32)], deliv: &[(usize, u32)]| {
         let record = with(1, 3, 5, m, deliv);
-        [send_number(record, 0, &[], 2048), deliver_number(record, &shelf, 2048, 64)]
+        [send_number(record, 0, 0, &[], 2048), deliver_number(record, &shelf, 2048, 64)]
     };
     assert_eq!(numbers(&[(1, 0, TOP - 1)], &[(0, TOP - 1)]), [0, 0]);
     assert_eq!(numbers(&[(1, 2, TOP)], &[]), [5, 5]);
     assert_eq!(numbers(&[], &[(2, TOP)]), [5, 5]);
     assert_eq!(numbers(&[(0, 2, TOP), (2, 0, TOP)], &[]), [0, 0]);
     let limit = with(1, 3, 5, &[(1, 2, TOP)], &[(0, TOP)]);
-    assert_eq!(send_number(limit, 1, &[], 2048), 5);
+    assert_eq!(send_number(limit, 1, 0, &[], 2048), 5);
     assert_eq!(offer_number(limit, &draft(USER, 2, 1, 3, 5, &[], &[]).bytes(), &shelf), 0);
     let mut out = [0; 2048];
-    let (_, after) = send(with(1, 3, 5, &[(1, 0, TOP - 1)], &[]), 0, &[], &mut out);
+    let (_, after) = send(with(1, 3, 5, &[(1, 0, TOP - 1)], &[]), 0, 0, &[], &mut out);
     assert_eq!(after.entry(1, 0), TOP);
 }
 
 #[test]
 fn checks_6_and_7() {
-    let numbers = [0, 1, 2, 3, 4, 12, 256, 258, usize::MAX].map(|to| send_number(sample(), to, &[], 2048));
+    let numbers = [0, 1, 2, 3, 4, 12, 256, 258, usize::MAX].map(|to| send_number(sample(), to, 0, &[], 2048));
     assert_eq!(numbers, [0, 6, 0, 6, 6, 6, 6, 6, 6]);
-    assert_eq!([0, 64, 65, 256, 257].map(|length| send_number(sample(), 0, &vec![1; length], 2048)), [0, 0, 7, 7, 7]);
-    assert_eq!(send_number(sample(), 1, &[0; 65], 2048), 6);
+    assert_eq!(
+        [0, 64, 65, 256, 257].map(|length| send_number(sample(), 0, 0, &vec![1; length], 2048)),
+        [0, 0, 7, 7, 7]
+    );
+    assert_eq!(send_number(sample(), 1, 0, &[0; 65], 2048), 6);
 }
 
 #[test]
@@ -345,8 +348,8 @@ fn of_two_checks_met_the_lower_is_given() {
     let shelf = empty_shelf();
     let limit = with(1, 3, 5, &[(1, 2, TOP)], &[]);
     let broken = Record { held: 17, ..limit };
-    assert_eq!([send_number(broken, 1, &[], 0), send_number(limit, 1, &[], 0)], [2, 3]);
-    assert_eq!([send_number(limit, 1, &[0; 65], 2048), send_number(sample(), 1, &[0; 65], 2048)], [5, 6]);
+    assert_eq!([send_number(broken, 1, 0, &[], 0), send_number(limit, 1, 0, &[], 0)], [2, 3]);
+    assert_eq!([send_number(limit, 1, 0, &[0; 65], 2048), send_number(sample(), 1, 0, &[0; 65], 2048)], [5, 6]);
     let torn = Record { held: 1, ..limit };
     assert_eq!([deliver_number(broken, &[], 0, 0), deliver_number(torn, &shelf, 0, 0)], [2, 3]);
     assert_eq!([deliver_number(torn, &shelf, 2048, 64), deliver_number(limit, &shelf, 2048, 64)], [4, 5]);

@@ -3,7 +3,7 @@
 
 pub mod c;
 
-use host::{Delivered, Frames, Node, Output};
+use host::{topics, Class, Delivered, Frames, Node, Output};
 
 /// A frame's bytes with a right trailer; entries are row, column and value.
 pub fn spelled(kind: u8, from: u8, to: u8, n: u8, cap: u8, entries: &[(u8, u8, u32)], body: &[u8]) -> Vec<u8> {
@@ -29,10 +29,20 @@ pub fn plant(n: usize, cap: usize) -> Vec<Node> {
     (0..n).map(|me| Node::set_up(me, n, cap).expect("n and cap are in range")).collect()
 }
 
-/// The frames that a send issues.
+/// A class that may send the body, by its topic.
+pub fn class_for(body: &[u8]) -> Class {
+    match body.first().unwrap_or(&topics::EMPTY) {
+        0..=31 => Class::Mover,
+        32..=95 => Class::Camera,
+        96..=127 => Class::Archive,
+        128..=255 => Class::Panel,
+    }
+}
+
+/// The frames that a send issues, as a class that may send the body.
 pub fn send(node: &mut Node, to: usize, body: &[u8]) -> Vec<Vec<u8>> {
     let mut output = Output::new();
-    let sent = node.send(to, body, &mut output).expect("a send");
+    let sent = node.send(to, class_for(body), body, &mut output).expect("a send");
     cut(sent.issued)
 }
 

@@ -10,7 +10,7 @@
 
 /* The types as they are exported. An initializer of another type is an error. */
 static uint8_t (*const set_up)(uint8_t *, size_t, size_t, size_t, size_t) = node_set_up;
-static uint8_t (*const send)(uint8_t *, size_t, size_t, const uint8_t *, size_t, uint8_t *, size_t, uint8_t *,
+static uint8_t (*const send)(uint8_t *, size_t, size_t, size_t, const uint8_t *, size_t, uint8_t *, size_t, uint8_t *,
                              size_t) = node_send;
 static uint8_t (*const offer)(uint8_t *, size_t, const uint8_t *, size_t, uint8_t *, size_t, uint8_t *,
                               size_t) = node_offer;
@@ -84,18 +84,50 @@ static void try_send(void)
 
     mark();
     memcpy(before, image, sizeof before);
-    EXPECT(send(image, 631, 1, words, 5, out, 2048, answer, 11) == 20);
-    EXPECT(send(image, 632, 1, words, 5, out, 2047, answer, 11) == 3);
-    EXPECT(send(image, 632, 1, words, 5, out, 2048, answer, 10) == 3);
-    EXPECT(send(image, 632, 2, words, 5, out, 2048, answer, 11) == 6);
-    EXPECT(send(image, 632, FAR + 1, words, 5, out, 2048, answer, 11) == 6);
-    EXPECT(send(image, 632, 1, words, 65, out, 2048, answer, 11) == 7);
+    EXPECT(send(image, 631, 1, CAUSAL_ARCHIVE, words, 5, out, 2048, answer, 11) == 20);
+    EXPECT(send(image, 632, 1, CAUSAL_ARCHIVE, words, 5, out, 2047, answer, 11) == 3);
+    EXPECT(send(image, 632, 1, CAUSAL_ARCHIVE, words, 5, out, 2048, answer, 10) == 3);
+    EXPECT(send(image, 632, 2, CAUSAL_ARCHIVE, words, 5, out, 2048, answer, 11) == 6);
+    EXPECT(send(image, 632, FAR + 1, CAUSAL_ARCHIVE, words, 5, out, 2048, answer, 11) == 6);
+    EXPECT(send(image, 632, 1, CAUSAL_ARCHIVE, words, 65, out, 2048, answer, 11) == 7);
+    EXPECT(send(image, 632, 1, CAUSAL_CAMERA, words, 65, out, 2048, answer, 11) == 7);
+    EXPECT(send(image, 632, 1, CAUSAL_CAMERA, words, 5, out, 2048, answer, 11) == 21);
+    EXPECT(send(image, 632, 1, 256 + CAUSAL_ARCHIVE, words, 5, out, 2048, answer, 11) == 21);
+    EXPECT(send(image, 632, 1, FAR + CAUSAL_ARCHIVE, words, 5, out, 2048, answer, 11) == 21);
+    EXPECT(send(image, 632, 1, SIZE_MAX, words, 5, out, 2048, answer, 11) == 21);
     EXPECT(memcmp(image, before, sizeof before) == 0 && all(out, sizeof out, MARK) && all(answer, sizeof answer, MARK));
-    EXPECT(send(image, 632, 1, words, 5, out, 2048, answer, 11) == 0);
+    EXPECT(send(image, 632, 1, CAUSAL_ARCHIVE, words, 5, out, 2048, answer, 11) == 0);
     EXPECT(memcmp(out, frame, sizeof frame) == 0 && all(out + sizeof frame, sizeof out - sizeof frame, MARK));
     EXPECT(memcmp(answer, said, sizeof said) == 0 && all(answer + 11, MORE, MARK));
     /* M[2,1], in row 2 and column 1, is 1 now. */
     EXPECT(image[3 + 4 * (12 * 2 + 1)] == 1 && all(image + CAUSAL_IMAGE_BYTES, MORE, MARK));
+}
+
+/* Sends of the first and the last topic of each group, by each class and by the number above the last. */
+static void try_class(void)
+{
+    static const uint8_t topics[] = {CAUSAL_TOPIC_MOTION, 31, CAUSAL_TOPIC_EXPOSURE, 95,
+                                     CAUSAL_TOPIC_FILING, 127, CAUSAL_TOPIC_NOTES, 255};
+    static const uint8_t numbers[][sizeof topics] = {
+        {0, 0, 21, 21, 21, 21, 0, 0},
+        {21, 21, 0, 0, 21, 21, 0, 0},
+        {21, 21, 21, 21, 0, 0, 0, 0},
+        {21, 21, 21, 21, 21, 21, 0, 0},
+        {21, 21, 21, 21, 21, 21, 21, 21},
+    };
+    size_t node_class, k;
+
+    for (node_class = CAUSAL_MOVER; node_class <= CAUSAL_PANEL + 1; node_class++) {
+        const uint8_t *number = numbers[node_class];
+
+        for (k = 0; k < sizeof topics; k++) {
+            EXPECT(set_up(image, 632, 2, 3, 4) == 0);
+            EXPECT(send(image, 632, 1, FAR + node_class, topics + k, 1, out, 2048, answer, 11) == 21);
+            EXPECT(send(image, 632, 1, node_class, topics + k, 1, out, 2048, answer, 11) == number[k]);
+        }
+        /* An empty body is a note. */
+        EXPECT(send(image, 632, 1, node_class, words, 0, out, 2048, answer, 11) == number[6]);
+    }
 }
 
 /* Writes the trailer behind a frame's bytes; gives the whole length. */
@@ -151,8 +183,8 @@ static void try_deliver(void)
     uint8_t frame[32];
     size_t length = frame_to_0(frame, 2, 2, 1, 'y');
 
-    EXPECT(send(image, 632, 1, words, 0, out, 2048, answer, 11) == 0);
-    EXPECT(send(image, 632, 2, words, 0, out, 2048, answer, 11) == 0);
+    EXPECT(send(image, 632, 1, CAUSAL_PANEL, words, 0, out, 2048, answer, 11) == 0);
+    EXPECT(send(image, 632, 2, CAUSAL_PANEL, words, 0, out, 2048, answer, 11) == 0);
     mark();
     EXPECT(deliver(image, 631, queue, 12832, out, 2048, body, 64, answer, 11) == 20);
     EXPECT(deliver(image, 632, queue, 12831, out, 2048, body, 64, answer, 11) == 3);
@@ -206,6 +238,7 @@ int main(void)
 {
     try_set_up();
     try_send();
+    try_class();
     try_offer();
     try_deliver();
     try_trail();

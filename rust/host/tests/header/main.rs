@@ -4,7 +4,7 @@
 mod common;
 
 use common::{c, path};
-use host::{sizes, Kind, Refusal};
+use host::{sizes, topics, Class, Kind, Refusal};
 use std::collections::BTreeMap;
 use std::path::{Path, PathBuf};
 use std::process::Command;
@@ -76,6 +76,27 @@ fn sizes_and_kinds_are_those_of_the_crate() {
 }
 
 #[test]
+fn classes_and_topics_are_those_of_the_crate() {
+    let constants = constants();
+    for class in Class::ALL {
+        let name = format!("CAUSAL_{}", in_capitals(&format!("{class:?}")));
+        assert_eq!(constants.get(&name), Some(&class.number()), "{name}");
+    }
+    let topics = constants
+        .into_iter()
+        .filter_map(|(name, value)| Some((name.strip_prefix("CAUSAL_TOPIC_")?.to_string(), value)));
+    let expected = [
+        ("MOTION", *topics::MOTION.start()),
+        ("EXPOSURE", *topics::EXPOSURE.start()),
+        ("FILING", *topics::FILING.start()),
+        ("NOTES", *topics::NOTES.start()),
+        ("EMPTY", topics::EMPTY),
+    ];
+    let expected = expected.map(|(name, value)| (name.to_string(), usize::from(value)));
+    assert_eq!(topics.collect::<BTreeMap<_, _>>(), BTreeMap::from(expected));
+}
+
+#[test]
 fn refusals_have_the_names_and_numbers_of_the_crate() {
     let constants = constants();
     let refusals: BTreeMap<String, usize> =
@@ -144,7 +165,7 @@ fn header_and_rust_declare_the_same_functions() {
     let expected = [
         ("node_deliver", 10),
         ("node_offer", 8),
-        ("node_send", 9),
+        ("node_send", 10),
         ("node_set_up", 5),
         ("trail_step", 4),
         ("trail_walk", 4),

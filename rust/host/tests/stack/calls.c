@@ -1,7 +1,8 @@
 /*
  * How deep the stack is under each call. The call is made on a stack of its own that is painted before; the deepest
  * byte that has changed is counted from the frame of the caller, which counts what it passes on the stack too.
- * Twelve nodes with cap 12 talk at random, so that every part of a call is run: trims, full queues, refusals.
+ * Twelve nodes with cap 12 talk at random, on topics and as classes at random, so that every part of a call is run:
+ * trims, full queues, refusals.
  */
 #define _GNU_SOURCE
 #include "causal_node.h"
@@ -27,7 +28,7 @@ static unsigned issued, taken[CALLS];
 static uint8_t stack[STACK];
 static ucontext_t host, calls;
 static int call;
-static size_t node, to;
+static size_t node, to, node_class;
 static unsigned frame;
 static uint8_t returned;
 static const uint8_t *top;
@@ -38,7 +39,7 @@ static void make_call(void)
     switch (call) {
     case SET_UP: returned = node_set_up(images[node], sizeof images[node], node, PLANT, PLANT); break;
     case SEND:
-        returned = node_send(images[node], sizeof images[node], to, body, to * 5, out, sizeof out, answer,
+        returned = node_send(images[node], sizeof images[node], to, node_class, body, to * 5, out, sizeof out, answer,
                              sizeof answer);
         break;
     case OFFER:
@@ -98,6 +99,8 @@ int main(void)
         next = step < PLANT ? SET_UP : SEND + (int)(v % (CALLS - 1));
         node = step < PLANT ? (size_t)step : v / 64 % PLANT;
         to = v / 1024 % PLANT;
+        node_class = v / 16384 % (CAUSAL_PANEL + 2);
+        body[0] = (uint8_t)(v >> 24);
         frame = issued == 0 ? 0 : v / 65536 % (issued < KEPT ? issued : KEPT);
         if (next == OFFER && v / 16 % 8 > 0)
             node = kept[frame][CAUSAL_FRAME_TO];

@@ -40,9 +40,9 @@ pub fn draft(kind: u8, from: u8, to: u8, n: u8, cap: u8, triples: &[(usize, usiz
 }
 
 /// The number that a send gives (0 for none), with its promise on refusals held against it.
-pub fn send_number(record: Record, to: usize, body: &[u8], length: usize) -> u8 {
+pub fn send_number(record: Record, to: usize, class: usize, body: &[u8], length: usize) -> u8 {
     let mut out = vec![0xA5; length];
-    match send(record, to, body, &mut out) {
+    match send(record, to, class, body, &mut out) {
         (SendAnswer::Refused(number), after) => {
             assert_eq!((after, out), (record, vec![0xA5; length]));
             number
