@@ -6,7 +6,7 @@ use mathlib.Core.Path.{_≡_, refl}
 use native.Mathlib.Omega.{arith}
 use borrow.Author.Tests.{le-leb, le-ltb, lt-leb, lt-ltb}
 use lib.Dec.{eqb}
-use lib.ListN.{getD, length}
+use lib.ListN.{List·getD-eq-default, getD, length}
 use Rattle.rights.specs.Topics.{Group, motion, exposure, filing, notes, group, groupOf, topic}
 use Rattle.rights.specs.Rights.{lacksRight, panel, place}
 
@@ -47,7 +47,13 @@ pub no-class : (table : List ℕ) (class : ℕ) (body : List ℕ) → panel < cl
 unfolding lacksRight
 no-class table class body h = rw (lt-ltb panel class h)
 
--- another lacks it where the table's byte is not 1
+-- another lacks it where the table has no byte for it
+pub no-byte : (table : List ℕ) (class i : ℕ) (body : List ℕ) → class ≤ panel → i ≡ place (groupOf body) → length table ≤ 4 * class + i
+    → lacksRight table class body ≡ true
+unfolding lacksRight
+no-byte table class i body h e k = rw (le-ltb panel class h, ← e, List·getD-eq-default table 0 k)
+
+-- and where that byte is not 1
 pub by-byte : (table : List ℕ) (class i : ℕ) (body : List ℕ) → class ≤ panel → i ≡ place (groupOf body)
     → not (eqb (getD table (4 * class + i) 0) 1) ≡ lacksRight table class body
 unfolding lacksRight

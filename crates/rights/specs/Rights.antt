@@ -19,10 +19,6 @@ archive = 2
 abbrev pub panel : ℕ
 panel = 3
 
--- the bytes of a table
-abbrev pub tableSize : ℕ
-tableSize = 16
-
 -- a group's place among the four of a class
 abbrev pub place : Group → ℕ
 place motion = 0
@@ -30,7 +26,7 @@ place exposure = 1
 place filing = 2
 place notes = 3
 
--- whether a class has the right to a group
+-- whether a class has the right to a group; a byte that is not there gives none
 abbrev pub hasRight : List ℕ → ℕ → Group → Bool
 hasRight table class g = eqb (getD table (4 * class + place g) 0) 1
 

@@ -1,8 +1,7 @@
 //! Who may say what: the topic of a body, the group of a topic, and whether a class of nodes lacks the right to send a body, by a table of rights.
 ghost use mathlib.Core.Path.{_≡_};
-ghost use lib.ListN.{length};
 ghost use Rattle.rights.specs.Topics.{topic, group};
-ghost use Rattle.rights.specs.Rights.{place, tableSize, lacksRight};
+ghost use Rattle.rights.specs.Rights.{place, lacksRight};
 ghost use Rattle.rights.specs.Ours.{ours};
 
 /// The topic of an empty body.
@@ -55,13 +54,16 @@ pub fn group(topic: u8) -> usize
     }
 }
 
-/// Whether a class is above 3, or lacks by this table the right to the topic of the body.
+/// Whether a class is above 3, or lacks by this table the right to the topic of the body; a shorter table gives no right past its end.
 pub fn lacks_right(table: &[u8], class: usize, body: &[u8]) -> bool
-    requires { ⌜ length (now table) ≡ tableSize ⌝ }
     ensures { λ r. ⌜ r ≡ lacksRight (now (table .entry)) class (now (body .entry)) ⌝ }
 {
     if PANEL < class {
         return true;
     }
-    table[GROUPS * class + group(topic(body))] != 1
+    let at = GROUPS * class + group(topic(body));
+    if table.len() <= at {
+        return true;
+    }
+    table[at] != 1
 }
