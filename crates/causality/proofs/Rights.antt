@@ -12,7 +12,7 @@ use Rattle.causality.proofs.Reading.{either-kind, extra-kind, from-enco
 use Rattle.causality.proofs.Records.{node-back, record-kept, recordOf}
 use Rattle.causality.proofs.Sends.{free}
 use Rattle.causality.specs.Demand3.{Event, Issue, IssueAt, User, World}
-use Rattle.causality.specs.Rights.{Extra, RightsFor, Sendable, SentBy, bodyIn, groupIn}
+use Rattle.causality.specs.Rights.{Extra, RightsFor, Sendable, SentBy, bodyCarried, groupCarried}
 use Rattle.frame.proofs.Written.{decode-encode}
 use Rattle.matrix.specs.Message.{Message}
 use Rattle.node.proofs.Sending.{send-last, send-number, to-other}
@@ -35,21 +35,21 @@ use Rattle.wire.proofs.Tests.{cond-elim, is-false}
 module _ (n cap : ℕ) (w : messages.World) (b : World) (g : Good n (λ i. cap) w) (few : length (w .history) < 1000000000)
     (m : Matches n w b) (senders : Senders w) where
   -- a message of the log and its frame
-  body-encode : (p : ℕ) (f : messages.Issue) → messages.IssueAt w p f → bodyIn (encodeIssue f .frame) ≡ f .message .body
+  body-encode : (p : ℕ) (f : messages.Issue) → messages.IssueAt w p f → bodyCarried (encodeIssue f .frame) ≡ f .message .body
   body-encode p f at = ap (λ (x : Message). x .body) (decode-encode (f .message) (sound-issue n cap w g few (m .bodies) p f at))
 
   -- the send of a user frame, by a class that has the right to its body
   pub record Sender (h : Issue) : Type 0 where
     pub class : ℕ
     pub sent : SentBy b h class
-    pub allowed : lacksRight ours class (bodyIn (h .frame)) ≡ false
+    pub allowed : lacksRight ours class (bodyCarried (h .frame)) ≡ false
 
   sender-of : (p : ℕ) (f : messages.Issue) → messages.IssueAt w p f → User (encodeIssue f .frame) → Sender (encodeIssue f)
   sender-of p f at u =
       let s = senders p f at (user-kind (f .message) u) in
       let x = same-there (w .history) (b .history) (m .history) (f .step) (s .event) (s .at) in
       let y = x .2 .sent (f .message .from) (f .message .to) (f .message .body) (s .sent) (s .accepted) in
-      let body : f .message .body ≡ bodyIn (encodeIssue f .frame) = sym (body-encode p f at) in
+      let body : f .message .body ≡ bodyCarried (encodeIssue f .frame) = sym (body-encode p f at) in
       record {
         class = y .class;
         sent = record {
@@ -74,10 +74,10 @@ module _ (n cap : ℕ) (w : messages.World) (b : World) (g : Good n (λ i. cap) 
       let z = sym (x .step) ∙ ap (λ (v : Event). v .step) e ∙ y .step in
       cc
 
-  right : (p class : ℕ) (h : Issue) → IssueAt b p h → User (h .frame) → SentBy b h class → MaySend class (groupIn (h .frame))
+  right : (p class : ℕ) (h : Issue) → IssueAt b p h → User (h .frame) → SentBy b h class → MaySend class (groupCarried (h .frame))
   right p class h at u s =
       let x = sender p h at u in
-      subst (λ (c : ℕ). MaySend c (groupIn (h .frame))) (one-class h (x .class) class (x .sent) s) (ours-means .only (x .class) (bodyIn (h .frame)) (x .allowed))
+      subst (λ (c : ℕ). MaySend c (groupCarried (h .frame))) (one-class h (x .class) class (x .sent) s) (ours-means .only (x .class) (bodyCarried (h .frame)) (x .allowed))
 
   -- the number of a send that meets none of 2 to 7
   number : (i to class : ℕ) (body out : List ℕ) → Sendable n i to body out
@@ -114,9 +114,9 @@ module _ (n cap : ℕ) (w : messages.World) (b : World) (g : Good n (λ i. cap) 
           let x = issue-back n w b m (sound-issue n cap w g few (m .bodies)) p h at in
           subst (λ (z : Issue). User (z .frame) ⊎ Extra (z .frame)) (x .2) (either-kind (x .0 .message))
 
-      bare : (p : ℕ) (h : Issue) → IssueAt b p h → Extra (h .frame) → bodyIn (h .frame) ≡ []
+      bare : (p : ℕ) (h : Issue) → IssueAt b p h → Extra (h .frame) → bodyCarried (h .frame) ≡ []
       bare p h at e =
           let x = issue-back n w b m (sound-issue n cap w g few (m .bodies)) p h at in
           let f = x .0 in
           let k = extra-kind (f .message) (subst (λ (z : Issue). Extra (z .frame)) (sym (x .2)) e) in
-          subst (λ (z : Issue). bodyIn (z .frame) ≡ []) (x .2) (body-encode p f (x .1) ∙ g .sound p f (x .1) .bare k)
+          subst (λ (z : Issue). bodyCarried (z .frame) ≡ []) (x .2) (body-encode p f (x .1) ∙ g .sound p f (x .1) .bare k)

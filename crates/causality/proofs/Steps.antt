@@ -81,11 +81,11 @@ right-send i to class body out a may k j text e _ =
     let z : body ≡ text = cc in
     record { class = class; out = out; same = rw (x, y, z) refl; allowed = subst (λ (v : List ℕ). lacksRight ours class v ≡ false) z may }
 
-no-send : (i p : ℕ) (a : protocol.Answer) (t : Step) → SameSend (messages.offers i p) a t
-no-send i p a t k j text e _ = let z : _≡_ {A = ℕ} 0 1 = cc in absurd (omega arith)
+offer-sends-nothing : (i p : ℕ) (a : protocol.Answer) (t : Step) → SameSend (messages.offers i p) a t
+offer-sends-nothing i p a t k j text e _ = let z : _≡_ {A = ℕ} 0 1 = cc in absurd (omega arith)
 
-nor-send : (i : ℕ) (a : protocol.Answer) (t : Step) → SameSend (messages.delivers i) a t
-nor-send i a t k j text e _ = let z : _≡_ {A = ℕ} 0 1 = cc in absurd (omega arith)
+deliver-sends-nothing : (i : ℕ) (a : protocol.Answer) (t : Step) → SameSend (messages.delivers i) a t
+deliver-sends-nothing i a t k j text e _ = let z : _≡_ {A = ℕ} 0 1 = cc in absurd (omega arith)
 
 -- a step at node i
 module _ (n cap : ℕ) (w : messages.World) (b : World) (g : Good n (λ i. cap) w) (few : length (w .history) < 1000000000)
@@ -118,8 +118,8 @@ module _ (n cap : ℕ) (w : messages.World) (b : World) (g : Good n (λ i. cap) 
       (sym (own-refused d (below-limit n (λ k. cap) w g few i))) (refused-agrees d 6 a out s)
 
   -- and sends nothing
-  own-send : (t : Step) → SameSend (messages.sends i i []) (send d i [] .answer) t
-  own-send t k j text e ok =
+  own-sends-nothing : (t : Step) → SameSend (messages.sends i i []) (send d i [] .answer) t
+  own-sends-nothing t k j text e ok =
       absurd (true≢false (sym ok ∙ ap (λ (o : protocol.Outcome). protocol.accepted (o .answer)) (own-refused d (below-limit n (λ k. cap) w g few i))))
 
   -- a send
@@ -148,7 +148,7 @@ module _ (n cap : ℕ) (w : messages.World) (b : World) (g : Good n (λ i. cap) 
     send-matches-barred h =
         let c : AfterSend = sendCall (b .records i) to class body out in
         let x = send-barred n cap w g few (m .bodies) i hi to class body out h in
-        matched (messages.sends i i []) (sends i to class body out) (send-send i i i to class [] body out) (λ z. send z i []) (own-send (sends i to class body out))
+        matched (messages.sends i i []) (sends i to class body out) (send-send i i i to class [] body out) (λ z. send z i []) (own-sends-nothing (sends i to class body out))
         (c .result .node) (b .queues i) (sent (c .result .answer)) (c .out)
         (sent-with (send d i [])
         (subst (λ (y : AfterSend). Agrees (send d i []) (y .result .node) (laid (map encode (w .nodes i .held))) (sent (y .result .answer)) (y .out))
@@ -172,7 +172,7 @@ module _ (n cap : ℕ) (w : messages.World) (b : World) (g : Good n (λ i. cap) 
     offer-matches =
         let c : AfterOffer = offerCall (b .records i) (encode (f .message)) (b .queues i) in
         matched (messages.offers i p) (offers i p) (offer-offer i p) (λ z. offer z (f .message))
-        (no-send i p (offer d (f .message) .answer) (offers i p)) (c .result .node) (c .queue)
+        (offer-sends-nothing i p (offer d (f .message) .answer) (offers i p)) (c .result .node) (c .queue)
         (offered (c .result .answer)) [] offered-here
 
   -- a deliver
@@ -196,13 +196,13 @@ module _ (n cap : ℕ) (w : messages.World) (b : World) (g : Good n (λ i. cap) 
     deliver-matches h k =
         let c : AfterDeliver = deliverCall (b .records i) (b .queues i) out body in
         matched (messages.delivers i) (delivers i out body) (deliver-deliver i i out body) deliver
-        (nor-send i (deliver d .answer) (delivers i out body)) (c .result .node) (c .queue)
+        (deliver-sends-nothing i (deliver d .answer) (delivers i out body)) (c .result .node) (c .queue)
         (delivered (c .result .answer)) (c .out) (given-here h k)
 
     pub deliver-matches-short : T (lentLess out body) → Given (messages.sends i i []) (send (w .nodes i) i [])
     deliver-matches-short h =
         let c : AfterDeliver = deliverCall (b .records i) (b .queues i) out body in
-        matched (messages.sends i i []) (delivers i out body) (send-deliver i i i [] out body) (λ z. send z i []) (own-send (delivers i out body)) (c .result .node) (c .queue)
+        matched (messages.sends i i []) (delivers i out body) (send-deliver i i i [] out body) (λ z. send z i []) (own-sends-nothing (delivers i out body)) (c .result .node) (c .queue)
         (delivered (c .result .answer)) (c .out)
         (given-with (send d i [])
         (subst (λ (x : AfterDeliver). Agrees (send d i []) (x .result .node) (x .queue) (delivered (x .result .answer)) (x .out))

@@ -19,11 +19,11 @@ use Rattle.node.specs.Sizes.{outSize}
 use Rattle.causality.specs.Demand3.{Step, sends, BodiesOfBytes, Event, Issue, World, IssueAt, User, accepted, destination, start, run}
 
 -- the body that a frame carries, and its group
-abbrev pub bodyIn : List ℕ → List ℕ
-bodyIn s = decode s .body
+abbrev pub bodyCarried : List ℕ → List ℕ
+bodyCarried s = decode s .body
 
-abbrev pub groupIn : List ℕ → Group
-groupIn s = groupOf (bodyIn s)
+abbrev pub groupCarried : List ℕ → Group
+groupCarried s = groupOf (bodyCarried s)
 
 -- an extra frame
 abbrev pub Extra : List ℕ → Type 0
@@ -34,7 +34,7 @@ pub record SentBy (w : World) (g : Issue) (class : ℕ) : Type 0 where
   pub out : List ℕ
   pub event : Event
   pub at : getElem? (w .history) (g .step) ≡ some event
-  pub step : event .step ≡ sends (header (g .frame) .from) (destination (g .frame)) class (bodyIn (g .frame)) out
+  pub step : event .step ≡ sends (header (g .frame) .from) (destination (g .frame)) class (bodyCarried (g .frame)) out
   pub accepted : accepted (event .answer) ≡ true
 
 -- a send that meets none of 2 to 7: at node i, to another node, of a body of at most 64 bytes, lent an output of at least 2,048
@@ -54,13 +54,13 @@ pub record Sendable (n i to : ℕ) (body out : List ℕ) : Type 0 where
 pub record RightsFor (n : ℕ) (w : World) : Type 0 where
   pub kinds : (p : ℕ) (g : Issue) → IssueAt w p g → User (g .frame) ⊎ Extra (g .frame)
   pub sent : (p : ℕ) (g : Issue) → IssueAt w p g → User (g .frame) → (class : ℕ) × SentBy w g class
-  pub right : (p class : ℕ) (g : Issue) → IssueAt w p g → User (g .frame) → SentBy w g class → MaySend class (groupIn (g .frame))
-  pub motion : (p class : ℕ) (g : Issue) → IssueAt w p g → User (g .frame) → SentBy w g class → groupIn (g .frame) ≡ motion → class ≡ mover
+  pub right : (p class : ℕ) (g : Issue) → IssueAt w p g → User (g .frame) → SentBy w g class → MaySend class (groupCarried (g .frame))
+  pub motion : (p class : ℕ) (g : Issue) → IssueAt w p g → User (g .frame) → SentBy w g class → groupCarried (g .frame) ≡ motion → class ≡ mover
   pub accepts : (i to class : ℕ) (body out : List ℕ) → Sendable n i to body out → MaySend class (groupOf body)
       → sendNumber (sendCall (w .records i) to class body out .result .answer) ≡ 0
   pub refuses : (i to class : ℕ) (body out : List ℕ) → Sendable n i to body out → ¬ MaySend class (groupOf body)
       → sendNumber (sendCall (w .records i) to class body out .result .answer) ≡ 21
-  pub bare : (p : ℕ) (g : Issue) → IssueAt w p g → Extra (g .frame) → bodyIn (g .frame) ≡ []
+  pub bare : (p : ℕ) (g : Issue) → IssueAt w p g → Extra (g .frame) → bodyCarried (g .frame) ≡ []
 
 -- for the lists of demand 3
 abbrev pub RightsKept : Type 0
