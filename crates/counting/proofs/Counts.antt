@@ -36,4 +36,4 @@ module _ (w : World) where
   offer-few m = offer-cases w Counts (λ k. tt) m (λ p g at count ready e t. tt)
 
   pub deliver-few : (n limit j : ℕ) → Few (deliverStep n limit w j .outcome)
-  deliver-few n limit j = deliver-cases w Counts (λ k. tt) n limit j (λ h tried t. omega (arith, t .0)) (λ h d t. omega (arith, t .few))
+  deliver-few n limit j = deliver-cases w Counts (λ k. tt) n limit j (λ h tried t. omega (arith, t .0)) (λ h d t. omega (arith, t .few, t .nodes))

@@ -328,6 +328,6 @@ pub deliver-small : (r r₁ : Record) (queue out body queue₁ out₁ body₁ : 
     → afterDeliver (record { answer = deliverAnswer.Frame d; node = r₁ }) queue₁ out₁ body₁ ≡ deliverCall r queue out body
     → (d .tried < 256) × (d .body < 256) × (d .extras < 256) × (d .bytes < 65536)
 deliver-small r r₁ queue out body queue₁ out₁ body₁ d e =
-    let f : DeliveredFacts out out₁ d
+    let f : DeliveredFacts (r .n) out out₁ d
     = subst (λ (c : AfterDeliver). DeliverTold r queue out (c .result .answer) c) (sym e) (deliver-told r queue out body) in
-    (omega (arith, f .tried), omega (arith, f .body), omega (arith, f .few), omega (arith, f .most))
+    (omega (arith, f .tried), omega (arith, f .body), omega (arith, f .few, f .nodes), omega (arith, f .most))

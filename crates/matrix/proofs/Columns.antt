@@ -1,5 +1,5 @@
 -- Counts of the columns of a matrix, the rules of a node's matrix, and what the steps do to both.
-use Prim.Native.Nat.{ℕ, suc, _≤_, _<_}
+use Prim.Native.Nat.{ℕ, suc, _+_, _-_, _≤_, _<_}
 use mathlib.Core.Bool.{cond}
 use mathlib.Core.Logic.{_≢_}
 use mathlib.Core.Path.{_≡_, sym, ap, _∙_}
@@ -7,7 +7,7 @@ use native.Mathlib.Decide.{ℕ-discrete, decLe}
 use native.Mathlib.Omega.{arith}
 use lib.Dec.{leb, le→leb}
 use Rattle.matrix.proofs.Matrix.{largest-lt, largest-le, clear-mine, clear-gone, clear-keep, only-col, only-zero, merge-kept, merge-own, nonZero-le}
-use Rattle.matrix.proofs.Sums.{sum-ext, sum-at, sum-ones, sum-le, sum-change, sum-single}
+use Rattle.matrix.proofs.Sums.{sum-ext, sum-at, sum-cut, sum-less, sum-ones, sum-le, sum-change, sum-single}
 use Rattle.matrix.specs.Matrix.{Matrix, sum, nonZero, columnCount, count, fullest, clear, only, merge}
 use Rattle.wire.proofs.Tests.{cond-elim, cond-yes, cond-no, lt→nleb}
 
@@ -116,6 +116,12 @@ pub clear-same : (me l : ℕ) (m : Matrix) (y : ℕ) → y ≢ l → columnCount
 unfolding columnCount
 clear-same me l m y ne = sum-ext 12 (λ x. nonZero (clear me l m x y)) (λ x. nonZero (m x y)) (λ x. ap nonZero (clear-keep me l m x y ne))
 
+-- so of all entries those of that column go, but for one
+pub clear-count : (me l : ℕ) (m : Matrix) → me < 12 → l < 12 → count (clear me l m) + columnCount m l ≡ count m + 1
+unfolding count
+clear-count me l m hi hl =
+    omega (arith, sum-change 12 l (columnCount (clear me l m)) (columnCount m) hl (λ y ne. clear-same me l m y ne), clear-one me l m hi)
+
 -- one column alone keeps the rules
 pub only-rules : (n me l : ℕ) (m : Matrix) → MatrixRules n me m → l ≢ me → MatrixRules n me (only l m)
 only-rules n me l m f ne = record {
@@ -181,3 +187,13 @@ crowded-down me l m hi hl h =
 pub crowded-some : (l : ℕ) (m : Matrix) → l < 12 → 2 ≤ columnCount m l → 1 ≤ crowded m
 unfolding crowded
 crowded-some l m hl h = omega (arith, sum-at 12 (wide m) l hl, wide-yes m l h)
+
+-- a node's matrix has at most n - 1 of them: its own column is zero
+pub crowded-few : (n me : ℕ) (m : Matrix) → me < n → n ≤ 12 → MatrixRules n me m → crowded m ≤ n - 1
+unfolding crowded
+crowded-few n me m hi hn f =
+    omega (
+      arith,
+      sum-cut 12 n (wide m) hn (λ y h _. wide-no m y (omega (arith, column-zero m y (λ x. f .columns x y h)))),
+      sum-less n 1 me (wide m) hi (wide-no m me (omega (arith, column-zero m me (f .own)))) (λ y _. wide-le m y),
+    )

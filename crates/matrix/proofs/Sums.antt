@@ -115,3 +115,12 @@ sum-short (suc k) c l f h z b = go (λ (p : l < k). sum-short k c l f p z (λ x 
 
 pub sum-less : (k c l : ℕ) (f : ℕ → ℕ) → l < k → f l ≡ 0 → ((x : ℕ) → x < k → f x ≤ c) → sum k f ≤ c * k - c
 sum-less k c l f h z b = omega (arith, sum-short k c l f h z b)
+
+-- a sum whose terms from n on are zero
+pub sum-cut : (k n : ℕ) (f : ℕ → ℕ) → n ≤ k → ((x : ℕ) → n ≤ x → x < k → f x ≡ 0) → sum k f ≡ sum n f
+sum-cut zero n f h z = let e : 0 ≡ n = omega arith in ap (λ (j : ℕ). sum j f) e
+sum-cut (suc k) n f h z = go (λ (p : n ≤ k). sum-cut k n f p (λ x a b. z x a (omega arith))) (decLe n k)
+  where
+    go : (n ≤ k → sum k f ≡ sum n f) → Dec (n ≤ k) → sum (suc k) f ≡ sum n f
+    go ih (yes p) = omega (arith, ih p, z k p (omega arith))
+    go ih (no p) = let e : suc k ≡ n = omega arith in ap (λ (j : ℕ). sum j f) e

@@ -1,5 +1,5 @@
 -- The checks on record and queue that offer and deliver share, and the first of several checks that is met. Assumes nothing.
-use Prim.Native.Nat.{ℕ}
+use Prim.Native.Nat.{ℕ, _<_}
 use mathlib.Core.Bool.{Bool, _||_, cond, false, not, true}
 use mathlib.Core.List.{List, []}
 use mathlib.Core.Path.{_∙_, _≡_, refl}
@@ -7,9 +7,12 @@ use native.Mathlib.Omega.{arith}
 use borrow.Author.Tests.{eq-eqb, ne-eqb}
 use lib.Dec.{eqb, eqb→eq}
 use lib.ListN.{length}
-use Rattle.holdback.proofs.Held.{queue-kept}
+use Rattle.frame.proofs.Carried.{Carried, carried}
+use Rattle.frame.specs.Frame.{decode}
+use Rattle.holdback.proofs.Held.{held-kept, queue-kept}
 use Rattle.holdback.specs.WrongQueue.{wrongQueue}
 use Rattle.holdback.specs.CheckedQueue.{CheckedQueue}
+use Rattle.holdback.specs.Places.{frameAt}
 use Rattle.holdback.specs.Slots.{heldFrames, laid, queueSize}
 use Rattle.matrix.specs.Array.{entry, vector}
 use Rattle.node.specs.CallRefusals.{recordRefusal}
@@ -95,3 +98,9 @@ module _ (r : Record) (q : List ℕ) (short : Bool) where
 
   pub queue-laid : RecordPassed → q ≡ laid (heldFrames (r .held) q)
   queue-laid p = queue-kept (nodeOf r []) (r .held) q (p .queue) .queue
+
+  -- the messages in it, whose n is the record's
+  pub held-carried : RecordPassed → (i : ℕ) → i < r .held → Carried (r .n) (decode (frameAt q i))
+  held-carried p i h =
+      let d = nodeOf r [] in
+      carried (r .n) (r .cap) (frameAt q i) (held-kept d (r .held) q (queue-kept d (r .held) q (p .queue) .refused) i h .passes)

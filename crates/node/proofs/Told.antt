@@ -1,5 +1,5 @@
 -- What the answer of a call tells of what the call left: the frames that it wrote, and that its numbers are small. Assumes nothing.
-use Prim.Native.Nat.{ℕ, suc, _+_, _-_, _≤_, _<_}
+use Prim.Native.Nat.{ℕ, suc, _+_, _-_, _*_, _≤_, _<_}
 use mathlib.Core.List.{List, [], _∷_}
 use mathlib.Core.Path.{_≡_, refl, subst, sym}
 use native.Mathlib.Decide.{ℕ-discrete}
@@ -7,7 +7,7 @@ use native.Mathlib.Omega.{arith}
 use lib.ListN.{length, length-append}
 use Rattle.wire.proofs.Bytes.{length-put}
 use Rattle.wire.specs.Bytes.{put}
-use Rattle.wire.specs.Limits.{maxBody, maxCount}
+use Rattle.wire.specs.Limits.{maxBody, maxCount, maxNodes}
 use Rattle.matrix.specs.Array.{entry}
 use Rattle.matrix.specs.Matrix.{Matrix, clear, merge}
 use Rattle.matrix.specs.Message.{Kind, user, extra, Message, userMessage}
@@ -22,7 +22,7 @@ use Rattle.holdback.proofs.Queues.{found-held}
 use Rattle.holdback.proofs.Searched.{found-none}
 use Rattle.holdback.specs.Places.{frameAt, placeOf}
 use Rattle.holdback.specs.Slots.{heldMessages}
-use Rattle.protocol.proofs.Trim.{trim-few}
+use Rattle.protocol.proofs.Extras.{delivery-most, oneUser, send-one}
 use Rattle.protocol.specs.Answer.{delivery}
 use Rattle.protocol.specs.Deliver.{Search, conclude, learn}
 use Rattle.protocol.specs.Node.{Node}
@@ -61,7 +61,7 @@ pub record SentFacts (out o : List ℕ) (bytes extras : ℕ) : Type 0 where
   pub issued : List Message
   pub wrote : Wrote out o bytes issued
   pub many : length issued ≡ 1 + extras
-  pub few : extras ≤ 12
+  pub few : extras ≤ 1
   pub most : bytes ≤ 1810
 
 -- what a send leaves in the output, by its answer
@@ -80,13 +80,16 @@ send-told r to class body out = send-cases (λ (c : AfterSend). SendTold out (c 
         let first : Message = userMessage (r .me) to (r .n) (r .cap) m body in
         let others : List Message = trimFor 12 (r .me) (r .n) (r .cap) (clear (r .me) to m) .extras in
         let k = sendable r to class body (length out) z in
+        let s = k .sound in
+        let one : length others ≤ 1
+        = send-one (nodeOf r []) (s .range .below) (s .range .atMost12) (s .range .capFrom) (s .rules) to (k .destination) (k .other) (s .few) in
         let most : length (framesOf (first ∷ others)) ≤ 1810
         = omega (arith, length-frames first others, length-encode first, frame-room k, k .short, trim-1008 (r .me) (r .n) (r .cap) (clear (r .me) to m)) in
         record {
           issued = first ∷ others;
           wrote = record { frames = refl; size = refl; inside = omega (arith, most, length-put out 0 (framesOf (first ∷ others)), k .long) };
           many = omega arith;
-          few = omega (arith, trim-few 12 (r .me) (r .n) (r .cap) (clear (r .me) to m));
+          few = omega (arith, one);
           most = most;
         }
 
@@ -104,11 +107,12 @@ offer-told r s q =
 
 -- ---- deliver
 
--- what is issued when entries are taken in
-learn-few : (k : Kind) (d : Node) (e : Matrix) → length (learn k d e .extras) ≤ 12
-learn-few user d e = trim-few 12 (d .me) (d .n) (d .cap) (merge (d .me) (d .matrix) e)
-learn-few extra d e = omega arith
+-- what bounds the extras of a user message bounds those of either kind
+of-kind : (k : Kind) (l most : ℕ) → l ≤ most * oneUser k → l ≤ most
+of-kind user l most h = omega arith
+of-kind extra l most h = omega arith
 
+-- what is issued when entries are taken in
 pub learn-room : (k : Kind) (d : Node) (e : Matrix) → length (framesOf (learn k d e .extras)) ≤ 1008
 learn-room user d e = trim-1008 (d .me) (d .n) (d .cap) (merge (d .me) (d .matrix) e)
 learn-room extra d e = rw frames-nil (omega arith)
@@ -123,12 +127,13 @@ kind-byte : (k : Kind) → (0 < kindByte k) × (kindByte k ≤ 2)
 kind-byte user = (omega arith, omega arith)
 kind-byte extra = (omega arith, omega arith)
 
--- a delivery: what it issued, and how large the numbers are that it names
-pub record DeliveredFacts (out o : List ℕ) (d : Delivered) : Type 0 where
+-- a delivery at a node of n: what it issued, and how large the numbers are that it names
+pub record DeliveredFacts (n : ℕ) (out o : List ℕ) (d : Delivered) : Type 0 where
+  pub nodes : n ≤ maxNodes
   pub issued : List Message
   pub wrote : Wrote out o (d .bytes) issued
   pub many : length issued ≡ d .extras
-  pub few : d .extras ≤ 12
+  pub few : d .extras ≤ n - 1
   pub most : d .bytes ≤ 1008
   pub body : d .body ≤ maxBody
   pub tried : d .tried ≤ 16
@@ -140,7 +145,7 @@ pub record DeliveredFacts (out o : List ℕ) (d : Delivered) : Type 0 where
 abbrev pub DeliverTold : Record → List ℕ → List ℕ → DeliverAnswer → AfterDeliver → Type 0
 DeliverTold r q out (deliverAnswer.Refused k) c = c .queue ≡ q
 DeliverTold r q out (deliverAnswer.Nothing tried) c = (tried ≤ 16) × (c .queue ≡ q) × (c .result .node ≡ r)
-DeliverTold r q out (deliverAnswer.Frame d) c = DeliveredFacts out (c .out) d
+DeliverTold r q out (deliverAnswer.Frame d) c = DeliveredFacts (r .n) out (c .out) d
 
 module _ (r : Record) (q out body : List ℕ) where
   abbrev given : AfterDeliver → Type 0
@@ -149,6 +154,15 @@ module _ (r : Record) (q out body : List ℕ) where
   -- what the search led to
   abbrev by : Search → Type 0
   by f = given (acceptDeliver r q out body (conclude (nodeAt r q) f) (delivery ((conclude (nodeAt r q) f) .answer)))
+
+  -- what is issued for the frame at place j
+  few : {o b : ℕ} → Ready r q o b → (j : ℕ) → j < r .held
+      → (let g : Message = decode (frameAt q j) in length (learn (g .kind) (nodeAt r q) (g .entries) .extras) ≤ r .n - 1)
+  few k j h =
+      let g : Message = decode (frameAt q j) in
+      let s = k .sound in
+      of-kind (g .kind) _ (r .n - 1)
+      (delivery-most (nodeAt r q) (s .range .below) (s .range .atMost12) (s .range .capFrom) (s .rules) (g .entries) (g .from) (k .carries j h .rules) (g .kind))
 
   by-search : Ready r q (length out) (length body) → by (searched r q)
   by-search k = go (ℕ-discrete (placeOf (searched r q)) 0)
@@ -169,10 +183,11 @@ module _ (r : Record) (q out body : List ℕ) where
           let most : length (framesOf l) ≤ 1008 = learn-room (g .kind) (nodeAt r q) (g .entries) in
           subst by (sym (x .1))
           record {
+            nodes = k .sound .range .atMost12;
             issued = l;
             wrote = record { frames = refl; size = refl; inside = omega (arith, most, length-put out 0 (framesOf l), k .long) };
             many = refl;
-            few = learn-few (g .kind) (nodeAt r q) (g .entries);
+            few = few k j (x .0);
             most = most;
             body = body-small (frameAt q j) sound;
             tried = omega (arith, x .0, k .sound .room);

@@ -152,6 +152,34 @@ send-clears : corner ((run 3 tie (sends 0 2 [] ∷ [])) .nodes 0 .matrix) ≡ 0 
 unfolding tie step send offer deliver atLimit deliverable trimFor fullest count columnCount clear only merge
 send-clears = refl
 
+-- n 4, cap 4: four entries stand at node 0, in two columns; its send to 3 makes them five, a tie, and an extra message goes to 1
+one-extra : World
+one-extra =
+    run 4 (start 4 (λ i. 4))
+    (sends 0 1 [] ∷ sends 0 2 [] ∷ sends 3 1 [] ∷ sends 3 2 [] ∷ sends 3 0 [] ∷ offers 0 4 ∷ delivers 0 ∷ sends 0 3 [] ∷ [])
+
+-- so the one extra message of a send is issued
+one-extra-answers : drop 5 (answers one-extra) ≡ holds 1 true ∷ gets user 3 1 1 [] 0 ∷ issues 2 ∷ []
+unfolding one-extra step send offer deliver atLimit deliverable trimFor fullest count columnCount clear only merge
+one-extra-answers = refl
+
+-- n 5, cap 5 at node 0 and 25 at the others: 0 knows of three messages to 4, and 4 of three to each of 1, 2 and 3, which it tells 0
+full-columns : World
+full-columns =
+    run 5 (start 5 (λ i. cond (eqb i 0) 5 25))
+    (sends 1 4 [] ∷ sends 1 0 [] ∷ sends 1 2 [] ∷ sends 1 3 [] ∷ sends 1 4 []
+    ∷ sends 2 4 [] ∷ sends 2 0 [] ∷ sends 2 1 [] ∷ sends 2 3 [] ∷ sends 2 4 []
+    ∷ sends 3 4 [] ∷ sends 3 0 [] ∷ sends 3 1 [] ∷ sends 3 2 [] ∷ sends 3 4 []
+    ∷ sends 4 1 [] ∷ sends 4 2 [] ∷ sends 4 3 []
+    ∷ offers 4 0 ∷ offers 4 4 ∷ offers 4 5 ∷ offers 4 9 ∷ offers 4 10 ∷ offers 4 14
+    ∷ delivers 4 ∷ delivers 4 ∷ delivers 4 ∷ delivers 4 ∷ delivers 4 ∷ delivers 4 ∷ sends 4 0 []
+    ∷ offers 0 1 ∷ offers 0 6 ∷ offers 0 11 ∷ delivers 0 ∷ delivers 0 ∷ delivers 0 ∷ offers 0 18 ∷ delivers 0 ∷ [])
+
+-- so the n - 1 extra messages of a delivery are issued, one to each other node
+full-columns-answers : drop 37 (answers full-columns) ≡ holds 1 true ∷ gets user 4 1 1 [] 4 ∷ []
+unfolding full-columns step send offer deliver atLimit deliverable trimFor fullest count columnCount clear only merge
+full-columns-answers = refl
+
 -- 0 tells 2 and 3 of one thing, 1 of another: 2 hears 0 first, 3 hears 1 first, and each in the order in which they were held
 opposite : World
 opposite =

@@ -15,11 +15,13 @@ pub mod Grown
 pub mod Sending
 pub mod Offering
 pub mod Learning
+pub mod Extras
 pub mod Bounds
 pub mod Taking
 pub mod Runs
 pub mod Accepting
 pub mod Senders
+pub mod Ceiling
 pub mod Liveness
 pub mod Demand3
 pub mod Examples

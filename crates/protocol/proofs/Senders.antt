@@ -1,6 +1,6 @@
 -- Every user message of a log was issued by an accepted send, from its from to its to, of its body. Assumes nothing.
 use Prim.Native.Nat.{ℕ, zero, suc}
-use mathlib.Core.Bool.{cond, true}
+use mathlib.Core.Bool.{true}
 use mathlib.Core.List.{List, [], _∷_, _++_, map}
 use mathlib.Core.Logic.{_⊎_, inl, inr}
 use mathlib.Core.Option.{some}
@@ -13,14 +13,15 @@ use Rattle.protocol.proofs.Lists.{at-append, at-last, at-left, at-none,
 use Rattle.protocol.proofs.Offering.{offer-checks}
 use Rattle.protocol.proofs.Rounds.{extra-user}
 use Rattle.protocol.proofs.Runs.{step-cases, step-good}
+use Rattle.protocol.proofs.Sending.{send-checks}
+use Rattle.protocol.proofs.Taking.{deliver-checks}
 use Rattle.protocol.proofs.Trim.{trim-kind}
 use Rattle.protocol.specs.Answer.{Outcome, accepted, issued, refuse}
-use Rattle.protocol.specs.Deliver.{Search, absent, conclude, deliver, found, learn, search}
-use Rattle.protocol.specs.Node.{Node, atLimit}
-use Rattle.protocol.specs.Offer.{deliverable, offer}
-use Rattle.protocol.specs.Send.{badDestination, longBody, send, sending, sentMessage}
+use Rattle.protocol.specs.Deliver.{Search, absent, conclude, deliver, found, learn}
+use Rattle.protocol.specs.Node.{Node}
+use Rattle.protocol.specs.Offer.{offer}
+use Rattle.protocol.specs.Send.{send, sending, sentMessage}
 use Rattle.protocol.specs.World.{Event, Issue, IssueAt, Step, World, afterStep, delivers, issuedBy, offers, run, sends, start, step}
-use Rattle.wire.proofs.Tests.{cond-elim}
 
 -- step t of a history is the accepted send of the message m
 pub record SentAt (history : List Event) (t : ℕ) (m : Message) : Type 0 where
@@ -69,17 +70,10 @@ module _ (i : ℕ) (d : Node) (me : d .me ≡ i) (to : ℕ) (body : List ℕ) wh
       absurd (extra-user (sym (trim-kind 12 (d .me) (d .n) (d .cap) (clear (d .me) to (d .matrix)) k m e) ∙ u))
 
   send-sends : Sends (sends i to body) (send d to body)
-  unfolding send
-  send-sends =
-      cond-elim (Sends s) (atLimit d) (refuse 5 d) (cond (badDestination d to) (refuse 6 d) rest) (λ _. refused-sends s 5 d)
-      (λ _. cond-elim (Sends s) (badDestination d to) (refuse 6 d) rest (λ _. refused-sends s 6 d)
-      (λ _. cond-elim (Sends s) (longBody body) (refuse 7 d) (sending d to body) (λ _. refused-sends s 7 d) (λ _. sending-sends)))
+  send-sends = send-checks d to body (Sends s) (refused-sends s 5 d) (refused-sends s 6 d) (refused-sends s 7 d) (λ _ _ _. sending-sends)
     where
       s : Step
       s = sends i to body
-
-      rest : Outcome
-      rest = cond (longBody body) (refuse 7 d) (sending d to body)
 
 -- an offer issues nothing
 offer-sends : (s : Step) (d : Node) (m : Message) → Sends s (offer d m)
@@ -93,10 +87,7 @@ learn-kind user d e p f a = trim-kind 12 (d .me) (d .n) (d .cap) (merge (d .me) 
 learn-kind extra d e p f a = absurd (at-none p f a)
 
 deliver-sends : (s : Step) (d : Node) → Sends s (deliver d)
-unfolding deliver
-deliver-sends s d =
-    cond-elim (Sends s) (atLimit d) (refuse 5 d) (conclude d (search (deliverable d) (d .held))) (λ _. refused-sends s 5 d)
-    (λ _. concluded (search (deliverable d) (d .held)))
+deliver-sends s d = deliver-checks d (Sends s) (refused-sends s 5 d) (λ f _. concluded f)
   where
     concluded : (f : Search) → Sends s (conclude d f)
     concluded absent p m e u = absurd (at-none p m e)

@@ -6,7 +6,7 @@ use mathlib.Core.Logic.{inl, _≢_}
 use mathlib.Core.Path.{_≡_, refl, sym, subst, _∙_}
 use native.Mathlib.Decide.{ℕ-discrete}
 use native.Mathlib.Omega.{arith}
-use lib.Dec.{ltb→lt, ltb, eqb, nltb→le, T}
+use lib.Dec.{ltb→lt, ltb, eqb, nltb→le}
 use lib.ListN.{length}
 use Rattle.matrix.proofs.Columns.{MatrixRules, clear-rules, clear-one}
 use Rattle.matrix.proofs.Matrix.{clear-mine, clear-gone, clear-keep}
@@ -29,6 +29,20 @@ use Rattle.protocol.specs.Trim.{Trimmed, trimFor}
 use Rattle.protocol.specs.World.{sends, Event, World, issuedBy, afterStep}
 use Rattle.wire.proofs.Tests.{not-not, cond-elim, neqb→ne, or-not}
 use Rattle.wire.specs.Limits.{maxNodes, maxBody}
+
+-- a send by its checks: what holds of each refusal, and of a send that meets none of them, holds of its outcome
+pub send-checks : (d : Node) (to : ℕ) (body : List ℕ) (P : Outcome → Type 0) → P (refuse 5 d) → P (refuse 6 d) → P (refuse 7 d)
+    → (to < d .n → to ≢ d .me → length body ≤ maxBody → P (sending d to body)) → P (send d to body)
+unfolding send
+send-checks d to body P r₅ r₆ r₇ goes =
+    cond-elim P (atLimit d) (refuse 5 d) (cond (badDestination d to) (refuse 6 d) rest) (λ _. r₅)
+    (λ _. cond-elim P (badDestination d to) (refuse 6 d) rest (λ _. r₆)
+    (λ a. cond-elim P (longBody body) (refuse 7 d) (sending d to body) (λ _. r₇)
+    (λ b. let h = or-not (eqb to (d .me)) (not (ltb to (d .n))) a in
+    goes (ltb→lt to (d .n) (not-not (ltb to (d .n)) (h .1))) (neqb→ne to (d .me) (h .0)) (nltb→le maxBody (length body) b))))
+  where
+    rest : Outcome
+    rest = cond (longBody body) (refuse 7 d) (sending d to body)
 
 -- a send that is not refused, of node i to node j
 module _ (n : ℕ) (caps : ℕ → ℕ) (w : World) (g : Good n caps w) (i : ℕ) (hi : i < n) (j : ℕ) (hj : j < n) (ne : j ≢ i)
@@ -174,13 +188,9 @@ module _ (n : ℕ) (caps : ℕ → ℕ) (w : World) (g : Good n caps w) (i : ℕ
 -- any send
 pub send-good : (n : ℕ) (caps : ℕ → ℕ) (w : World) → Good n caps w → (i j : ℕ) (body : List ℕ) → i < n
     → Good n caps (afterStep w i (sends i j body) (send (w .nodes i) j body))
-unfolding send
 send-good n caps w g i j body hi =
-    cond-elim P (atLimit d) (refuse 5 d) rest (λ _. refuse-good n caps w g i hi (sends i j body) 5)
-    (λ _. cond-elim P (badDestination d j) (refuse 6 d) (cond (longBody body) (refuse 7 d) (sending d j body))
-    (λ _. refuse-good n caps w g i hi (sends i j body) 6)
-    (λ k. cond-elim P (longBody body) (refuse 7 d) (sending d j body) (λ _. refuse-good n caps w g i hi (sends i j body) 7)
-    (λ s. go (nltb→le 64 (length body) s) (or-not (eqb j (d .me)) (not (ltb j (d .n))) k))))
+    send-checks d j body P (refuse-good n caps w g i hi (sends i j body) 5) (refuse-good n caps w g i hi (sends i j body) 6)
+    (refuse-good n caps w g i hi (sends i j body) 7) go
   where
     d : Node
     d = w .nodes i
@@ -188,11 +198,8 @@ send-good n caps w g i j body hi =
     P : Outcome → Type 0
     P r = Good n caps (afterStep w i (sends i j body) r)
 
-    rest : Outcome
-    rest = cond (badDestination d j) (refuse 6 d) (cond (longBody body) (refuse 7 d) (sending d j body))
-
-    go : length body ≤ 64 → T (not (eqb j (d .me))) × T (not (not (ltb j (d .n)))) → P (sending d j body)
-    go s k =
-        let hj : j < n = rw (g .node i hi .sized) at (ltb→lt j (d .n) (not-not (ltb j (d .n)) (k .1))) in
-        let ne : j ≢ i = λ q. neqb→ne j (d .me) (k .0) (q ∙ sym (g .node i hi .me)) in
+    go : j < d .n → j ≢ d .me → length body ≤ maxBody → P (sending d j body)
+    go below other s =
+        let hj : j < n = rw (g .node i hi .sized) at below in
+        let ne : j ≢ i = λ q. other (q ∙ sym (g .node i hi .me)) in
         subst (λ (z : Node). P (sending z j body)) (sym (node-eq n caps w g i hi)) (sending-good n caps w g i hi j hj ne body s)

@@ -31,6 +31,12 @@ use Rattle.protocol.specs.Trim.{Trimmed}
 use Rattle.protocol.specs.World.{delivers, Issue, Event, World, IssueAt, issuedBy, afterStep}
 use Rattle.wire.proofs.Tests.{cond-elim}
 
+-- a deliver by its check and its search: what holds of the refusal, and of what any search leads to, holds of its outcome
+pub deliver-checks : (d : Node) (P : Outcome → Type 0) → P (refuse 5 d) → ((r : Search) → search (deliverable d) (d .held) ≡ r → P (conclude d r)) → P (deliver d)
+unfolding deliver
+deliver-checks d P r₅ searched =
+    cond-elim P (atLimit d) (refuse 5 d) (conclude d (search (deliverable d) (d .held))) (λ _. r₅) (λ _. searched (search (deliverable d) (d .held)) refl)
+
 -- the delivery of the held message of issue p, at place h of its destination's queue
 module _ (n : ℕ) (caps : ℕ → ℕ) (w : World) (g : Good n caps w) (p : ℕ) (G : Issue) (at : IssueAt w p G) (k h : ℕ) (l : List Message)
     (removed : Removed (w .nodes (G .message .to) .held) h (G .message) l)
@@ -245,12 +251,8 @@ conclude-good n caps w g i hi (found k f l) e =
 
 -- any deliver
 pub deliver-good : (n : ℕ) (caps : ℕ → ℕ) (w : World) → Good n caps w → (i : ℕ) → i < n → Good n caps (afterStep w i (delivers i) (deliver (w .nodes i)))
-unfolding deliver
 deliver-good n caps w g i hi =
     subst (λ (z : Node). Good n caps (afterStep w i (delivers i) (deliver z))) (sym (node-eq n caps w g i hi))
-    (cond-elim (λ (r : Outcome). Good n caps (afterStep w i (delivers i) r)) (atLimit d) (refuse 5 d) (conclude d (search (deliverable d) (w .nodes i .held)))
-    (λ _. subst (λ (z : Node). Good n caps (afterStep w i (delivers i) (refuse 5 z))) (node-eq n caps w g i hi) (refuse-good n caps w g i hi (delivers i) 5))
-    (λ _. conclude-good n caps w g i hi (search (deliverable d) (w .nodes i .held)) refl))
-  where
-    d : Node
-    d = nodeAt n caps w i
+    (deliver-checks (nodeAt n caps w i) (λ (r : Outcome). Good n caps (afterStep w i (delivers i) r))
+    (subst (λ (z : Node). Good n caps (afterStep w i (delivers i) (refuse 5 z))) (node-eq n caps w g i hi) (refuse-good n caps w g i hi (delivers i) 5))
+    (conclude-good n caps w g i hi))

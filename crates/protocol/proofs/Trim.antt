@@ -1,5 +1,5 @@
 -- Trim: twelve rounds are enough, it ends within the cap, and it issues at most one message to each destination, one in a round; what it issues is extra.
-use Prim.Native.Nat.{ℕ, zero, suc, _≤_, _<_}
+use Prim.Native.Nat.{ℕ, zero, suc, _+_, _-_, _≤_, _<_}
 use mathlib.Core.Bool.{not, cond}
 use mathlib.Core.List.{List, [], _∷_}
 use mathlib.Core.Logic.{_⊎_, inl, inr, _≢_}
@@ -10,7 +10,7 @@ use native.Mathlib.Omega.{arith}
 use lib.Dec.{T, leb, leb→le, le→leb, nleb→lt}
 use lib.ListN.{getElem?, length}
 use Rattle.matrix.proofs.Columns.{MatrixRules, fullest-lt, fullest-two, two-below, two-other, clear-rules, clear-one}
-use Rattle.matrix.proofs.Columns.{clear-same, crowded, crowded-le, crowded-down, crowded-some}
+use Rattle.matrix.proofs.Columns.{clear-count, clear-same, crowded, crowded-le, crowded-down, crowded-some}
 use Rattle.matrix.proofs.Cleared.{clear-lower, clear-row}
 use Rattle.matrix.proofs.Matrix.{clear-mine, clear-keep}
 use Rattle.matrix.specs.Matrix.{Matrix, columnCount, count, fullest, clear}
@@ -130,15 +130,30 @@ rounds-lower n cap me m extras m′ (done _) x y h = omega arith
 rounds-lower n cap me m extras m′ (round _ _ o l hl ne two _ r) x y h =
     omega (arith, clear-lower me l m x y h, rounds-lower n cap me (clear me l m) o m′ r x y h)
 
--- at most one message is issued in a round
-pub trim-few : (k me n cap : ℕ) (m : Matrix) → length (trimFor k me n cap m .extras) ≤ k
+-- each round takes an entry off at least, and is made where more than cap stand: no more messages are issued than entries stand above the cap
+pub trim-excess : (k n me cap : ℕ) (m : Matrix) → me < n → n ≤ 12 → n ≤ cap → MatrixRules n me m → length (trimFor k me n cap m .extras) ≤ count m - cap
 unfolding trimFor
-trim-few zero me n cap m = omega arith
-trim-few (suc k) me n cap m =
-    cond-elim (λ (t : Trimmed). length (t .extras) ≤ suc k) (leb (count m) cap) (untouched m)
+trim-excess zero n me cap m hi hn hc f = omega arith
+trim-excess (suc k) n me cap m hi hn hc f =
+    cond-elim (λ (t : Trimmed). length (t .extras) ≤ count m - cap) (leb (count m) cap) (untouched m)
     (issuing (extraMessage me (fullest m) n cap m) (trimFor k me n cap (clear me (fullest m) m)))
     (λ _. omega arith)
-    (λ _. omega (arith, trim-few k me n cap (clear me (fullest m) m)))
+    (λ t. let more : cap < count m = nleb→lt (count m) cap t in
+    let c = full n me cap m hi hc f more in
+    omega (
+      arith,
+      more,
+      c .two,
+      clear-count me (fullest m) m (omega arith) (fullest-lt m),
+      trim-excess k n me cap (clear me (fullest m) m) hi hn hc (c .rules),
+    ))
+
+-- and each clears another column of two entries or more: no more are issued than there are such columns
+pub rounds-crowded : (n cap me : ℕ) (m : Matrix) (extras : List Message) (m′ : Matrix) → me < n → n ≤ 12 → Rounds n cap me m extras m′
+    → length extras + crowded m′ ≡ crowded m
+rounds-crowded n cap me m extras m′ hi hn (done _) = omega arith
+rounds-crowded n cap me m extras m′ hi hn (round _ _ o l hl ne two _ r) =
+    omega (arith, rounds-crowded n cap me (clear me l m) o m′ hi hn r, crowded-down me l m (omega arith) (omega arith) two)
 
 -- what holds of every extra message holds of each that trim issues
 trim-each : (P : Message → Type 0) → ((me l n cap : ℕ) (m : Matrix) → P (extraMessage me l n cap m)) → (k me n cap : ℕ) (m : Matrix) (p : ℕ) (f : Message)

@@ -62,7 +62,7 @@ module _ (n cap k : ℕ) (v : World) (w : Stored) (q l : List ℕ) (h : Holds n 
   pub logged : Logged (w .issued) (s .issued) (w .end) l′
   logged = record { frames = g; log = in-log; order = grows; few = omega (arith, told .1 .issued, told .1 .below) }
 
-  pub enough : (at : ℕ) (o : List ℕ) → at + 20 + 17 * (75 - w .issued) ≤ length o → at + 20 + 17 * (s .issued - w .issued) ≤ length o
+  pub enough : (at : ℕ) (o : List ℕ) → at + 20 + 17 * (maxIssues - w .issued) ≤ length o → at + 20 + 17 * (s .issued - w .issued) ≤ length o
   enough at o r = omega (arith, told .1 .issued, told .1 .below)
 
   pub bounded : (r : Taken) (at : ℕ) → r .yard .world ≡ storedBy w s → r .end ≤ at + 20 + 17 * (s .issued - w .issued)

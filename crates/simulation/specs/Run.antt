@@ -5,7 +5,7 @@ use Rattle.text.specs.Output.{AfterRun, printInto}
 use Rattle.simulation.specs.Yard.{output}
 
 -- bytes of output that always suffice: five for each of 4,096 bytes of input (a line of one byte prints `R 17`), 17 for each of
--- at most 75 frames issued, and 62 for the last `R 17` and the T line are 21,817
+-- at most 64 frames issued, and 62 for the last `R 17` and the T line are 21,630
 abbrev pub outputSize : ℕ
 outputSize = 24576
 

@@ -15,6 +15,6 @@ pub record Took (n cap k : ℕ) (a : AfterLine) (at : ℕ) (o : List ℕ) (r : T
   pub end : r .end ≡ at + length (a .printed)
   pub bytes : o′ ≡ put o at (a .printed)
 
--- from `at` on the output o has room for one line and for each frame that is still issued: 20 bytes, and 17 for a frame
+-- from `at` on the output o has room for one line and for each frame that may still be issued: 20 bytes, and 17 for a frame
 abbrev pub Room : ℕ → State → List ℕ → Type 0
-Room at y o = at + 20 + 17 * (75 - y .world .issued) ≤ length o
+Room at y o = at + 20 + 17 * (maxIssues - y .world .issued) ≤ length o

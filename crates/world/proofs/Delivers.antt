@@ -1,5 +1,5 @@
 -- A deliver that is stored is the definition's. Assumes nothing.
-use Prim.Native.Nat.{ℕ, _+_, _*_, _≤_, _<_}
+use Prim.Native.Nat.{ℕ, _+_, _-_, _*_, _≤_, _<_}
 use mathlib.Core.Bool.{true, _||_}
 use mathlib.Core.List.{List, [], _++_}
 use mathlib.Core.Path.{_≡_, refl, sym, ap, ap₂, _∙_, subst}
@@ -23,7 +23,7 @@ use Rattle.causality.specs.Demand3.{World, bytesIssued, deliverAt, delivered, d
 use Rattle.world.proofs.Keeping.{end-room, holds-after, holds-later, stored-still}
 use Rattle.world.proofs.Logs.{begins-inside}
 use Rattle.world.proofs.Queues.{queue-back, queue-here, queue-other, queue-part, queues-length}
-use Rattle.world.proofs.Reach.{reached-deliver}
+use Rattle.world.proofs.Reach.{reached-deliver, reached-sized}
 use Rattle.world.proofs.Sends.{goes-on}
 use Rattle.world.proofs.Written.{frames-joined, wrote-frames}
 use Rattle.world.specs.declared.Outcome.{Outcome}
@@ -89,7 +89,7 @@ module _ (n cap limit k : ℕ) (w : World) (s : Stored) (q l : List ℕ) (h : Ho
     -- the stored world after the call
     stored : (bytes : List ℕ) (count : ℕ) → joined (framesIn (take (bytesIssued (delivered (c .result .answer))) (c .out))) ≡ bytes
         → length (framesIn (take (bytesIssued (delivered (c .result .answer))) (c .out))) ≡ count
-        → length (w .log) + count ≤ limit + 11 → s .end + length bytes ≤ length l → (s′ : Stored) (l′ : List ℕ)
+        → length (w .log) + count ≤ limit → s .end + length bytes ≤ length l → (s′ : Stored) (l′ : List ℕ)
         → s′ ≡ storedAfter s j (c .result .node) count (length bytes) → l′ ≡ write l (s .end) bytes
         → Holds n cap limit (k + 1) (deliverAt w j (delivers j frameOutput bodyOutput) c) s′ q₁ l′
     stored bytes count written many below fits s′ l′ es el =
@@ -120,13 +120,15 @@ module _ (n cap limit k : ℕ) (w : World) (s : Stored) (q l : List ℕ) (h : Ho
         )
 
     module _ (d : Delivered) (t : a .answer ≡ deliverAnswer.Frame d) where
-      facts : DeliveredFacts frameOutput (c .out) d
-      facts = told (deliverAnswer.Frame d) t
+      facts : DeliveredFacts n frameOutput (c .out) d
+      facts =
+          subst (λ (x : ℕ). DeliveredFacts x frameOutput (c .out) d) (reached-sized n cap k w (h .reached) (h .range) (omega arith) j hj)
+          (told (deliverAnswer.Frame d) t)
 
       pub delivered-inside : d .bytes ≤ length out
       delivered-inside = subst (λ (x : List ℕ). d .bytes ≤ length x) (ap (λ (x : AfterDeliver). x .out) same) (facts .wrote .inside)
 
-      pub delivered-few : d .extras ≤ 12
+      pub delivered-few : d .extras ≤ n - 1
       delivered-few = facts .few
 
       pub delivered-room : s .end + length (take (d .bytes) out) ≤ length l

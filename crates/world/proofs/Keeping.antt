@@ -100,7 +100,7 @@ module _ (n cap limit k : ℕ) (w : World) (s : Stored) (q l : List ℕ) (h : Ho
     (reached : Reached n cap (k + 1) (afterCall w i t r qi a out))
     (size : length q′ ≡ length q) (here : queueAt q′ i ≡ qi) (others : (x : ℕ) → x < n → x ≢ i → queueAt q′ x ≡ queueAt q x)
     (written : joined (issuedFrames a out) ≡ bytes) (many : length (issuedFrames a out) ≡ count)
-    (below : length (w .log) + count ≤ limit + 11) (fits : s .end + length bytes ≤ length l) where
+    (below : length (w .log) + count ≤ limit) (fits : s .end + length bytes ≤ length l) where
   abbrev v : World
   v = afterCall w i t r qi a out
 

@@ -1,4 +1,4 @@
--- Worlds that a list of steps leads to: one step more, and what is known of the frames issued. Assumes nothing.
+-- Worlds that a list of steps leads to: one step more, and what is known of their records and of the frames issued. Assumes nothing.
 use Prim.Native.Nat.{ℕ, _+_, _≤_, _<_}
 use mathlib.Core.List.{List, [], _∷_, _++_, map}
 use mathlib.Core.Option.{some}
@@ -17,6 +17,7 @@ use Rattle.protocol.proofs.Lists.{map-at}
 use Rattle.protocol.proofs.Runs.{run-good, run-length, start-good}
 use Rattle.protocol.specs.World as messages
 use Rattle.node.specs.Calls.{sendCall, offerCall, deliverCall}
+use Rattle.node.specs.declared.Node.{Node as Record}
 use Rattle.causality.proofs.Matches.{Matches, encodeIssue}
 use Rattle.causality.proofs.Queues.{sound-issue}
 use Rattle.causality.proofs.Reading.{to-encode}
@@ -89,6 +90,11 @@ module _ (n cap k : ℕ) (w : World) (r : Reached n cap k w) where
     m =
         run-matches n cap (r .steps) (r .bytes) (messages.start n (λ i. cap)) (start n cap) (start-good n (λ i. cap) (λ k h. inside))
         (omega (arith, r .few)) (start-matches n cap inside)
+
+    -- each record has the n of the list
+    pub reached-sized : (j : ℕ) → j < n → w .records j .n ≡ n
+    reached-sized j h =
+        ap (λ (z : World). z .records j .n) (r .same) ∙ ap (λ (z : Record). z .n) (m .records j h) ∙ good .node j h .sized
 
     issued-facts-run : (p : ℕ) (g : Issue) → getElem? (b .log) p ≡ some g → IssuedFacts (g .frame)
     issued-facts-run p g e =

@@ -87,7 +87,7 @@ module _ (n cap limit k : ℕ) (w : World) (s : Stored) (q l : List ℕ) (h : Ho
       unfolding logSize
       sent-room = omega (arith, end-room n cap limit k w s q l h (omega arith), length-take-le bytes out sent-inside, facts .most, h .room)
 
-      pub sent-few : extras ≤ 12
+      pub sent-few : extras ≤ 1
       sent-few = facts .few
 
       pub send-sent : (s′ : Stored) (l′ : List ℕ) → s′ ≡ storedAfter s i (a .node) (1 + extras) (length (take bytes out))

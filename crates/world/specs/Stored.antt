@@ -58,7 +58,7 @@ fresh n caps = record { n = n; nodes = freshFor n caps 0 ∷ freshFor n caps 1 �
 -- ---- A world that is stored
 
 -- the world w, which at most k steps led to, is stored in s, the queues q and the log l
--- below: a step that issues finds n issues left, and writes at most 13 frames
+-- below: a step that issues finds n issues left, and issues at most n
 pub record Holds (n cap limit k : ℕ) (w : World) (s : Stored) (q l : List ℕ) : Type 0 where
   pub range : InRange n cap
   pub few : n ≤ maxSimulated
@@ -69,7 +69,7 @@ pub record Holds (n cap limit k : ℕ) (w : World) (s : Stored) (q l : List ℕ)
   pub size : length q ≡ queueSize * maxSimulated
   pub queues : (i : ℕ) → i < n → queueAt q i ≡ w .queues i
   pub issued : s .issued ≡ length (w .log)
-  pub below : length (w .log) ≤ limit + 11
+  pub below : length (w .log) ≤ limit
   pub room : length l ≡ logSize limit
   pub begins : Begins (frames (w .log)) l
   pub end : s .end ≡ length (joined (frames (w .log)))

@@ -1,5 +1,5 @@
 -- The tests in order, the call, the issue found in the log, and what is left. Assumes nothing.
-use Prim.Native.Nat.{ℕ, _+_, _≤_}
+use Prim.Native.Nat.{ℕ, _+_, _-_, _≤_}
 use mathlib.Core.Path.{refl, sym}
 use native.Mathlib.Omega.{arith}
 use lib.ListN.{length, length-map}
@@ -34,7 +34,8 @@ left c n cap k v h =
     omega (arith, c .before .before .before .before .before .before .before .before .before .before .before .before .if2 .left, h .nodes, h .issued)
 
 -- what the delivery leaves, for the world that is asked for
-few : (c : tie.After-known-told3) → c .before .answer3 .given .0 .0 .extras ≤ 12
+few : (c : tie.After-known-told3) → c .before .answer3 .given .0 .0 .extras
+    ≤ c .before .before .before .before .before .before .before .before .before .before .before .before .before .before .before .before .pre .1 .n - 1
 unfolding zeros
 few c =
     let x = c .before .before .before .before .before .before .before .before .before .before .before .before .before .before .before .before .pre .1 in

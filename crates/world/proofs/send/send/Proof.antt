@@ -17,7 +17,7 @@ use Rattle.world.proofs.store.store.Reads as store-reads
 use Rattle.world.proofs.store.unchanged.Reads as unchanged-reads
 
 -- what the accepted call leaves, for the world that is asked for
-few : (c : tie.After-known-told2) → c .before .answer2 .given .0 .1 .0 ≤ 12
+few : (c : tie.After-known-told2) → c .before .answer2 .given .0 .1 .0 ≤ 1
 unfolding zeros
 few c =
     let d = c .before .before .before .before .before .before .before .before .before .before .before .pre .1 in
