@@ -99,7 +99,7 @@ module _ (n cap : ℕ) (w : messages.World) (g : Good n (λ i. cap) w) (few : le
   settled out body h absent e = record {
     node = refl;
     queue = refl;
-    answer = record { acceptance = refl; names = refl; taken = refl; given = refl; expected = inl refl };
+    answer = record { acceptance = refl; names = refl; taken = refl; given = refl; extras = refl; users = refl; expected = inl refl };
     frames = cut-nothing out;
     bodies = λ p f a. absurd (at-none p f a);
   }
@@ -109,7 +109,7 @@ module _ (n cap : ℕ) (w : messages.World) (g : Good n (λ i. cap) w) (few : le
       record {
         node = refl;
         queue = ap₂ (λ (z : ℕ) (l : List (List ℕ)). laid (without z l)) y (frames-back n cap w g few bodies i hi) ∙ ap laid (sym (x .2));
-        answer = record { acceptance = refl; names = refl; taken = refl; given = refl; expected = inl refl };
+        answer = record { acceptance = refl; names = refl; taken = refl; given = refl; extras = refl; users = refl; expected = inl refl };
         frames = issued-frames out ((learn (m .kind) d (m .entries)) .extras) (omega (arith, learn-room (m .kind) d (m .entries)));
         bodies = λ p f a. subst AllBytes (sym (learn-bare (m .kind) d (m .entries) p f a)) (small-bytes [] tt);
       }

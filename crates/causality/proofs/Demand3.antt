@@ -4,6 +4,8 @@ use mathlib.Core.List.{List, map}
 use native.Mathlib.Omega.{arith}
 use lib.ListN.{length, length-map}
 use Rattle.causality.proofs.Accepted.{accepted-once}
+use Rattle.causality.proofs.Ceiling.{ceiling-for}
+use Rattle.causality.proofs.FrameSizes.{frame-sizes-for}
 use Rattle.causality.proofs.Matches.{Matches}
 use Rattle.causality.proofs.Order.{carried, causal, distinct, kept, once}
 use Rattle.causality.proofs.Progress.{accepts, delivers-new, exists, held-agrees}
@@ -12,12 +14,15 @@ use Rattle.causality.proofs.Rights.{rights-for}
 use Rattle.causality.proofs.Runs.{run-matches, start-matches}
 use Rattle.causality.proofs.Steps.{forget}
 use Rattle.causality.specs.AcceptedOnce.{AcceptedOnce}
+use Rattle.causality.specs.Ceiling.{Ceiling}
 use Rattle.causality.specs.Demand3.{BodiesOfBytes, Demand3, Demand3For, Earliest, Issue, Step, World, run, start}
+use Rattle.causality.specs.FrameSizes.{FrameSizes}
 use Rattle.causality.specs.ListRefusals.{ListRefusals}
 use Rattle.causality.specs.Rights.{RightsKept}
 use Rattle.causality.specs.EachDestination.{EachDestination, EarliestThere, Progress}
 use Rattle.matrix.specs.Message.{InRange}
 use Rattle.protocol.proofs.Accepting.{run-once, start-once}
+use Rattle.protocol.proofs.Ceiling.{run-reported, start-reported}
 use Rattle.protocol.proofs.Good.{Good}
 use Rattle.protocol.proofs.Runs.{run-good, run-length, start-good}
 use Rattle.protocol.proofs.Senders.{run-senders, start-senders}
@@ -93,6 +98,19 @@ rightsKept n cap inside steps bytes short =
     (m n cap inside steps bytes short)
     (run-senders n (λ i. cap) (messages.start n (λ i. cap)) (l n cap inside steps bytes short) (good-start n cap inside steps bytes short)
     (start-senders n (λ i. cap)))
+
+-- the ceiling on extra frames
+pub ceiling : Ceiling
+ceiling n cap inside steps bytes short =
+    ceiling-for n (λ i. cap) (w n cap inside steps bytes short) (b n cap inside steps bytes short) (m n cap inside steps bytes short)
+    (run-reported n (λ i. cap) (messages.start n (λ i. cap)) (l n cap inside steps bytes short) (good-start n cap inside steps bytes short)
+    (start-reported n (λ i. cap)))
+
+-- how long frames are
+pub frameSizes : FrameSizes
+frameSizes n cap inside steps bytes short =
+    frame-sizes-for n cap (w n cap inside steps bytes short) (b n cap inside steps bytes short) (g n cap inside steps bytes short) (few n cap inside steps bytes short)
+    (m n cap inside steps bytes short)
 
 -- its last part, for each destination
 pub each-destination : EachDestination

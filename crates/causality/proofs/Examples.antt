@@ -7,9 +7,10 @@ use mathlib.Core.Path.{_≡_, refl}
 use native.Mathlib.Omega.{arith}
 use lib.ListN.{drop, replicate}
 use Rattle.arrival.specs.View.{arrivalRefusal}
-use Rattle.causality.proofs.Demand3.{demand3, rightsKept}
+use Rattle.causality.proofs.Demand3.{ceiling, demand3, rightsKept}
+use Rattle.causality.specs.Ceiling.{CeilingFor, extras, usersDelivered, usersIssued}
 use Rattle.causality.specs.Demand3.{Answer, BodiesOfBytes, DeliveredAt, Demand3For, Event, HappenedBefore, Issue, Step, World, chain, cutFor}
-use Rattle.causality.specs.Demand3.{delivered, delivers, issuedBy, message, offered, offers, run, sameNode, sends, sent, start, step}
+use Rattle.causality.specs.Demand3.{delivered, delivers, issuedBy, message, offered, offers, run, sameNode, sends, sent, start, step, sumOver}
 use Rattle.causality.specs.Rights.{RightsFor, SentBy}
 use Rattle.frame.specs.Entries.{entriesBytes, entriesFrom, entriesOf, entryAt, entryBytes, listed, matrixOf, placed}
 use Rattle.frame.specs.Frame.{decode, encode, front, headerOf}
@@ -231,6 +232,23 @@ unfolding tie step setUp inRange cutFor sendCall offerCall deliverCall brokenRec
     trailers.counted checksum total decode wrongQueue sameBytes heldRefused someRefused someAlike arrivalRefusal frameRefusal wrongTrailer hasTrailer countBack
     sumBack wrongKind wrongAddress wrongContent wrongBody wrongEntries eachOk entryOk precedes rising risingAfter zeros padded slots frameIn heldFrames without ours lacksRight group
 tie-extra = refl
+
+-- the ceiling speaks of it: one extra frame, where six user frames issued and four delivered allow 6 + 2 * 4
+tie-bodies : BodiesOfBytes tie
+unfolding tie
+tie-bodies = let none = small-bytes [] tt in (none, (none, (none, (none, (none, (none, tt))))))
+
+pub tie-ceiling : CeilingFor 3 (λ i. 3) (after tie)
+unfolding tie
+tie-ceiling = ceiling 3 3 range tie tie-bodies (omega arith)
+
+tie-sums : map (λ (f : Answer → ℕ). sumOver f (after tie .history)) (extras ∷ usersIssued ∷ usersDelivered ∷ []) ≡ 1 ∷ 6 ∷ 4 ∷ []
+unfolding tie step setUp inRange cutFor sendCall offerCall deliverCall brokenRecord brokenRules zeroDiagonal zeroColumn withinLimit zeroFrom count columnCount
+    flat entry atLimit protocolSend.send protocolOffer.offer protocolDeliver.deliver deliverable trimFor fullest clear only merge framesOf encode sealed front
+    headerBytes headerOf header ownLength entriesBytes entryBytes entriesOf listed placed entriesFrom entryAt matrixOf le16 le32 u16At u32At bytes.put trailer
+    trailers.counted checksum total decode wrongQueue sameBytes heldRefused someRefused someAlike arrivalRefusal frameRefusal wrongTrailer hasTrailer countBack
+    sumBack wrongKind wrongAddress wrongContent wrongBody wrongEntries eachOk entryOk precedes rising risingAfter zeros padded slots frameIn heldFrames without ours lacksRight group
+tie-sums = refl
 
 -- ---- no common order is imposed: of two unrelated senders, 0 and 1, node 2 delivers 0 first, and node 3 delivers 1 first
 unfoldable pub opposite : List Step

@@ -15,5 +15,7 @@ pub mod Progress
 pub mod Refusals
 pub mod Accepted
 pub mod Rights
+pub mod Ceiling
+pub mod FrameSizes
 pub mod Demand3
 pub mod Examples

@@ -12,6 +12,7 @@ use lib.ListN.{getElem?, length}
 use Rattle.causality.proofs.Queues.{Bodies}
 use Rattle.causality.specs.Demand3.{Answer, Event, Issue, Label, Step, World, accepted, afterCall, answersAt}
 use Rattle.causality.specs.Demand3.{deliveries, delivery, issuedBy, issuedFrames, offers, offersAccepted, sends}
+use Rattle.causality.specs.Ceiling.{extras, usersIssued}
 use Rattle.causality.specs.ListRefusals.{Expected}
 use Rattle.frame.specs.Frame.{encode}
 use Rattle.frame.specs.Header.{kindByte}
@@ -27,6 +28,7 @@ use Rattle.wire.specs.Bytes.{AllBytes}
 use Rattle.protocol.specs.World as messages
 use Rattle.protocol.specs.Answer as protocol
 use Rattle.protocol.specs.Demand3 as stated
+use Rattle.protocol.proofs.Ceiling as counted
 use Rattle.node.specs.declared.Node.{Node as Record}
 
 -- an issued message as an issued frame
@@ -47,6 +49,8 @@ pub record SameAnswer (a : protocol.Answer) (b : Answer) : Type 0 where
   pub names : delivery b ≡ named (protocol.delivery a)
   pub taken : offersAccepted b ≡ stated.offersAccepted a
   pub given : deliveries b ≡ stated.deliveries a
+  pub extras : extras b ≡ counted.extras a
+  pub users : usersIssued b ≡ counted.users a
   pub expected : Expected b
 
 -- steps that offer the same issue at the same node, or none

@@ -88,7 +88,7 @@ module _ (n cap : ℕ) (w : messages.World) (g : Good n (λ i. cap) w) (few : le
   settle s o = cond (protocol.accepted (o .answer)) (acceptOffer r s q o) (refuseOffer (refusalOf (o .answer)) r q)
 
   says-no : (k : ℕ) → T (not (eqb k 0)) → Expected (offered (answer.Refused k)) → SaysNo (offered (answer.Refused k))
-  says-no k t x = record { refuses = is-false (eqb k 0) t; nothing = refl; holds = refl; gives = refl; counts = refl; expected = x }
+  says-no k t x = record { refuses = is-false (eqb k 0) t; nothing = refl; holds = refl; gives = refl; counts = refl; extras = refl; users = refl; expected = x }
 
   settled : (m : Message) → Case d m → Left (offer d m) (settle (encode m) (offer d m))
   settled m (refuses k t x e) =
@@ -100,7 +100,7 @@ module _ (n cap : ℕ) (w : messages.World) (g : Good n (λ i. cap) w) (few : le
         queue =
             ap (λ (l : List (List ℕ)). laid (l ++ (encode m ∷ []))) (frames-back n cap w g few bodies i hi)
             ∙ ap laid (sym (map-append encode (w .nodes i .held) (m ∷ [])));
-        answer = record { acceptance = refl; names = refl; taken = refl; given = refl; expected = inl refl };
+        answer = record { acceptance = refl; names = refl; taken = refl; given = refl; extras = refl; users = refl; expected = inl refl };
         frames = cut-nothing [];
         bodies = λ p f a. absurd (at-none p f a);
       })

@@ -32,7 +32,7 @@ pub from-encode : (m : Message) → header (encode m) .from ≡ m .from
 unfolding headerOf
 from-encode m = ap (λ (h : Header). h .from) (header-encode m)
 
-kind-encode : (m : Message) → header (encode m) .kind ≡ kindByte (m .kind)
+pub kind-encode : (m : Message) → header (encode m) .kind ≡ kindByte (m .kind)
 unfolding headerOf
 kind-encode m = ap (λ (h : Header). h .kind) (header-encode m)
 

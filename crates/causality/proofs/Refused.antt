@@ -10,6 +10,7 @@ use lib.ListN.{take}
 use Rattle.causality.proofs.Frames.{cut-nothing}
 use Rattle.causality.proofs.Matches.{Agrees}
 use Rattle.causality.specs.Demand3.{Answer, accepted, bytesIssued, deliveries, delivery, framesIn, offersAccepted}
+use Rattle.causality.specs.Ceiling.{extras, usersIssued}
 use Rattle.causality.specs.ListRefusals.{Expected}
 use Rattle.frame.specs.Frame.{encode}
 use Rattle.holdback.specs.Slots.{laid}
@@ -27,6 +28,8 @@ pub record SaysNo (a : Answer) : Type 0 where
   pub holds : offersAccepted a ≡ 0
   pub gives : deliveries a ≡ 0
   pub counts : bytesIssued a ≡ 0
+  pub extras : extras a ≡ 0
+  pub users : usersIssued a ≡ 0
   pub expected : Expected a
 
 -- any refusal of a step agrees with any of a call
@@ -35,7 +38,7 @@ pub refused-agrees : (d : MessageNode) (k : ℕ) (a : Answer) (out : List ℕ) �
 refused-agrees d k a out s = record {
   node = refl;
   queue = refl;
-  answer = record { acceptance = s .refuses; names = s .nothing; taken = s .holds; given = s .gives; expected = s .expected };
+  answer = record { acceptance = s .refuses; names = s .nothing; taken = s .holds; given = s .gives; extras = s .extras; users = s .users; expected = s .expected };
   frames = ap (λ (c : ℕ). framesIn (take c out)) (s .counts) ∙ cut-nothing out;
   bodies = λ p m e. absurd (at-none p m e);
 }

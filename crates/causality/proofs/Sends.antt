@@ -112,7 +112,7 @@ module _ (n cap : ℕ) (w : messages.World) (g : Good n (λ i. cap) w) (few : le
   Left o c = Agrees o (c .result .node) q (sent (c .result .answer)) (c .out)
 
   says-no : (k : ℕ) → T (not (eqb k 0)) → Expected (sent (answer.Refused k)) → SaysNo (sent (answer.Refused k))
-  says-no k t x = record { refuses = is-false (eqb k 0) t; nothing = refl; holds = refl; gives = refl; counts = refl; expected = x }
+  says-no k t x = record { refuses = is-false (eqb k 0) t; nothing = refl; holds = refl; gives = refl; counts = refl; extras = refl; users = refl; expected = x }
 
   -- a send to `to`, by a class
   module _ (to class : ℕ) (body out : List ℕ) where
@@ -149,7 +149,7 @@ module _ (n cap : ℕ) (w : messages.World) (g : Good n (λ i. cap) w) (few : le
         (record {
           node = refl;
           queue = refl;
-          answer = record { acceptance = refl; names = refl; taken = refl; given = refl; expected = inl refl };
+          answer = record { acceptance = refl; names = refl; taken = refl; given = refl; extras = refl; users = refl; expected = inl refl };
           frames = issued-frames out issues (omega (
             arith,
             send-room (sentMessage d to body) (user-fits to body fits) extras (trim-bytes 12 i n cap (clear i to (w .nodes i .matrix))),

@@ -208,4 +208,4 @@ module _ (n cap : ℕ) (w : messages.World) (b : World) (g : Good n (λ i. cap) 
         (subst (λ (x : AfterDeliver). Agrees (send d i []) (x .result .node) (x .queue) (delivered (x .result .answer)) (x .out))
         (sym (deliver-short n cap w g few (m .bodies) i hi out body h))
         (own-agrees (delivered (deliverAnswer.Refused 3)) out
-        (record { refuses = refl; nothing = refl; holds = refl; gives = refl; counts = refl; expected = inr (inl refl) }))))
+        (record { refuses = refl; nothing = refl; holds = refl; gives = refl; counts = refl; extras = refl; users = refl; expected = inr (inl refl) }))))

@@ -153,6 +153,11 @@ abbrev pub run : ℕ → World → List Step → World
 run n w [] = w
 run n w (s ∷ l) = run n (step n w s) l
 
+-- the sum, over a history, of a number of each answer
+abbrev pub sumOver : (Answer → ℕ) → List Event → ℕ
+sumOver f [] = 0
+sumOver f (e ∷ l) = f (e .answer) + sumOver f l
+
 -- ---- Delivered, and happened before: both are read off the history and the log
 
 -- what a frame says of itself, and what a delivery's answer says of the frame delivered: kind (1 user, 2 extra), from and number

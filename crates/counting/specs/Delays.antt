@@ -1,9 +1,9 @@
 -- Delays (document 02, (v)), read off the history of a list: a frame is delayed when an offer accepts it without its being deliverable at that moment.
-use Prim.Native.Nat.{ℕ, _+_}
+use Prim.Native.Nat.{ℕ}
 use mathlib.Core.Bool.{true, false}
-use mathlib.Core.List.{List, [], _∷_}
+use mathlib.Core.List.{List}
 use Rattle.node.specs.declared.OfferAnswer.the-variants as offer
-use Rattle.causality.specs.Demand3.{Answer, Event, delivered, offered, sent}
+use Rattle.causality.specs.Demand3.{Answer, Event, delivered, offered, sent, sumOver}
 
 -- 1 for the answer of an offer that was accepted and says "not deliverable": an accepted offer says how many are held, and whether the frame is deliverable
 abbrev pub delay : Answer → ℕ
@@ -15,5 +15,4 @@ delay (delivered a) = 0
 
 -- how many such answers a history has
 abbrev pub delays : List Event → ℕ
-delays [] = 0
-delays (e ∷ l) = delay (e .answer) + delays l
+delays l = sumOver delay l

@@ -1,45 +1,51 @@
 -- What an accepted offer does not tell a host, forgotten: an answer is still as much a refusal or a delivery, and a history orders the same steps.
 -- Assumes nothing.
 use Prim.Native.Nat.{_+_, ℕ}
-use mathlib.Core.Bool.{cond, true}
+use mathlib.Core.Bool.{Bool, cond, false, true}
 use mathlib.Core.List.{List, [], _∷_, map}
 use mathlib.Core.Path.{_∙_, _≡_, ap, ap₂, refl, sym}
 use lib.Dec.{eqb}
 use Rattle.matrix.specs.Matrix.{count}
 use Rattle.protocol.proofs.Lists.{at-map, map-at}
 use Rattle.node.specs.declared.OfferAnswer.the-variants as offer
+use Rattle.causality.specs.Ceiling.{extras, usersDelivered, usersIssued}
 use Rattle.causality.specs.Demand3.{Answer, DeliveredAt, Event, HappenedBefore, Held, Issue}
 use Rattle.causality.specs.Demand3.{accepted, answersAt, chain, delivered, deliveries, delivery, message}
-use Rattle.causality.specs.Demand3.{offered, offersAccepted, refusal, sameNode, sent}
+use Rattle.causality.specs.Demand3.{offered, offersAccepted, refusal, sameNode, sent, sumOver}
 use Rattle.causality.specs.ListRefusals.{Expected}
 use Rattle.host_causality.proofs.Sees.{forgetEvent}
 use Rattle.host_causality.proofs.Shown.{forgetAnswer}
 
 -- ---- an answer
 
-pub same-refusal : (a : Answer) → refusal (forgetAnswer a) ≡ refusal a
-same-refusal (sent a) = refl
-same-refusal (offered (offer.Refused k)) = refl
-same-refusal (offered (offer.Held count ready)) = refl
-same-refusal (delivered a) = refl
+-- what looks at no number of an accepted offer stays
+same-without : {A : Type 0} (f : Answer → A) → ((count : ℕ) (ready : Bool) → f (offered (offer.Held 0 false)) ≡ f (offered (offer.Held count ready)))
+    → (a : Answer) → f (forgetAnswer a) ≡ f a
+same-without f h (sent a) = refl
+same-without f h (offered (offer.Refused k)) = refl
+same-without f h (offered (offer.Held count ready)) = h count ready
+same-without f h (delivered a) = refl
 
-same-delivery : (a : Answer) → delivery (forgetAnswer a) ≡ delivery a
-same-delivery (sent a) = refl
-same-delivery (offered (offer.Refused k)) = refl
-same-delivery (offered (offer.Held count ready)) = refl
-same-delivery (delivered a) = refl
+pub same-refusal : (a : Answer) → refusal (forgetAnswer a) ≡ refusal a
+same-refusal = same-without refusal (λ count ready. refl)
+
+pub same-delivery : (a : Answer) → delivery (forgetAnswer a) ≡ delivery a
+same-delivery = same-without delivery (λ count ready. refl)
 
 pub same-taken : (a : Answer) → offersAccepted (forgetAnswer a) ≡ offersAccepted a
-same-taken (sent a) = refl
-same-taken (offered (offer.Refused k)) = refl
-same-taken (offered (offer.Held count ready)) = refl
-same-taken (delivered a) = refl
+same-taken = same-without offersAccepted (λ count ready. refl)
 
 pub same-given : (a : Answer) → deliveries (forgetAnswer a) ≡ deliveries a
-same-given (sent a) = refl
-same-given (offered (offer.Refused k)) = refl
-same-given (offered (offer.Held count ready)) = refl
-same-given (delivered a) = refl
+same-given = same-without deliveries (λ count ready. refl)
+
+pub same-extras : (a : Answer) → extras (forgetAnswer a) ≡ extras a
+same-extras = same-without extras (λ count ready. refl)
+
+pub same-issued : (a : Answer) → usersIssued (forgetAnswer a) ≡ usersIssued a
+same-issued = same-without usersIssued (λ count ready. refl)
+
+pub same-received : (a : Answer) → usersDelivered (forgetAnswer a) ≡ usersDelivered a
+same-received = same-without usersDelivered (λ count ready. refl)
 
 pub same-expected : (a : Answer) → Expected a → Expected (forgetAnswer a)
 same-expected (sent a) e = e
@@ -85,3 +91,7 @@ module _ (l : List Event) where
 pub same-answers : (f : Answer → ℕ) → ((a : Answer) → f (forgetAnswer a) ≡ f a) → (j : ℕ) (l : List Event) → answersAt f j (map forgetEvent l) ≡ answersAt f j l
 same-answers f h j [] = refl
 same-answers f h j (e ∷ l) = ap₂ _+_ (ap (λ (k : ℕ). cond (eqb (e .node) j) k 0) (h (e .answer))) (same-answers f h j l)
+
+pub same-sum : (f : Answer → ℕ) → ((a : Answer) → f (forgetAnswer a) ≡ f a) → (l : List Event) → sumOver f (map forgetEvent l) ≡ sumOver f l
+same-sum f h [] = refl
+same-sum f h (e ∷ l) = ap₂ _+_ (h (e .answer)) (same-sum f h l)

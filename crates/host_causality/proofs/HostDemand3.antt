@@ -7,8 +7,10 @@ use lib.ListN.{getElem?, length}
 use Rattle.wire.specs.Limits.{maxHeld}
 use Rattle.node.specs.Answers.{sendNumber}
 use Rattle.node.specs.Calls.{deliverCall, sendCall}
-use Rattle.causality.proofs.Demand3.{acceptedOnce, demand3, listRefusals, rightsKept}
+use Rattle.causality.proofs.Demand3.{acceptedOnce, ceiling, demand3, frameSizes, listRefusals, rightsKept}
 use Rattle.causality.specs.AcceptedOnce.{AcceptedOnceFor}
+use Rattle.causality.specs.Ceiling.{CeilingFor}
+use Rattle.causality.specs.FrameSizes.{FrameSizesFor}
 use Rattle.causality.specs.Demand3.{DeliveredAt, DeliversNew, Demand3For, Earliest, Event, Held, Issue, World, destination, heldAt, label, run, start}
 use Rattle.causality.specs.ListRefusals.{ListRefusalsFor}
 use Rattle.causality.specs.Rights.{RightsFor}
@@ -17,7 +19,7 @@ use Rattle.host.specs.Exports.{DeliverLeft, answerSize, exportedDeliver, export
 use Rattle.image.specs.Image.{SoundImage, image}
 use Rattle.host_causality.proofs.Answers.{read-label}
 use Rattle.host_causality.proofs.Forgotten.{delivered-back}
-use Rattle.host_causality.proofs.Seen.{accepts-there, delivers-there, seen-demand3, seen-once, seen-refusals, seen-rights, sound, turn, v}
+use Rattle.host_causality.proofs.Seen.{accepts-there, delivers-there, seen-ceiling, seen-demand3, seen-once, seen-refusals, seen-rights, sound, turn, v}
 use Rattle.host_causality.proofs.Sees.{Sees, run-sees}
 use Rattle.host_causality.proofs.Shown.{deliver-shown, offer-shown, send-shown}
 use Rattle.host_causality.proofs.Starts.{start-sees}
@@ -83,8 +85,8 @@ module _ (n cap : ℕ) (h : HostWorld) (w : World) (m : Sees n h w) where
         let a = delivers-there n h w m cap d p g e c in
         shown (destination (g .frame)) (a .0) (a .1)
 
-    host-world : ListRefusalsFor w → AcceptedOnceFor w → RightsFor n w → HostDemand3For n cap h
-    host-world r o k =
+    host-world : ListRefusalsFor w → AcceptedOnceFor w → RightsFor n w → CeilingFor n (λ i. cap) w → FrameSizesFor n (λ i. cap) w → HostDemand3For n cap h
+    host-world r o k c s =
         record {
           demand3 = turn n h w m (Demand3For n cap) (seen-demand3 n h w m cap d);
           accepts = turn n h w m Accepting accepting;
@@ -97,6 +99,8 @@ module _ (n cap : ℕ) (h : HostWorld) (w : World) (m : Sees n h w) where
           refusals = turn n h w m ListRefusalsFor (seen-refusals n h w m r);
           acceptedOnce = turn n h w m AcceptedOnceFor (seen-once n h w m o);
           rights = turn n h w m (RightsFor n) (seen-rights n h w m k);
+          ceiling = turn n h w m (CeilingFor n (λ i. cap)) (seen-ceiling n h w m (λ i. cap) c);
+          sizes = turn n h w m (FrameSizesFor n (λ i. cap)) (record { user = s .user; extra = s .extra });
         }
 
 pub hostDemand3 : HostDemand3
@@ -105,4 +109,4 @@ hostDemand3 n cap inside lent calls k =
     host-world n cap (hostRun n (hostStart lent n cap) calls) (run n (start n cap) l)
     (run-sees n calls (hostStart lent n cap) (start n cap) (start-sees n cap lent (k .setUps)) (k .each))
     (demand3 n cap inside l (k .bodies) (k .few)) (listRefusals n cap inside l (k .bodies) (k .few)) (acceptedOnce n cap inside l (k .bodies) (k .few))
-    (rightsKept n cap inside l (k .bodies) (k .few))
+    (rightsKept n cap inside l (k .bodies) (k .few)) (ceiling n cap inside l (k .bodies) (k .few)) (frameSizes n cap inside l (k .bodies) (k .few))

@@ -21,6 +21,7 @@ use Rattle.node.specs.Record.{brokenRecord}
 use Rattle.node.specs.Sizes.{outSize}
 use Rattle.node.specs.declared.Node.{Node as Record}
 use Rattle.causality.specs.AcceptedOnce.{AcceptedOnceFor, Accepts}
+use Rattle.causality.specs.Ceiling.{CeilingFor, StepIssues, extras, usersDelivered, usersIssued}
 use Rattle.causality.specs.Demand3.{Delivered, Demand3For, DeliversNew, Earliest, Event, Held, HeldAgrees, Issue}
 use Rattle.causality.specs.Demand3.{World, accepted, delivered, deliveries, delivery, destination, heldAt}
 use Rattle.causality.specs.Demand3.{offered, offersAccepted, queued, refusal}
@@ -31,7 +32,8 @@ use Rattle.image.specs.Image.{SoundRecord, recordIn}
 use Rattle.host_causality.proofs.Calls.{sound-record}
 use Rattle.host_causality.proofs.Sees.{Sees, forgetEvent}
 use Rattle.host_causality.proofs.Forgotten.{accepted-back, before-back, delivered-back, delivered-there, same-answers, same-expected, same-given}
-use Rattle.host_causality.proofs.Forgotten.{same-refusal, same-taken}
+use Rattle.host_causality.proofs.Forgotten.{same-extras, same-issued, same-received, same-refusal, same-sum, same-taken}
+use Rattle.host_causality.proofs.Shown.{forgetAnswer}
 use Rattle.host_causality.specs.HostDemand3.{HostWorld, seen}
 
 -- ---- no call is accepted at a node that is not there
@@ -221,6 +223,25 @@ module _ (n : ℕ) (h : HostWorld) (w : World) (m : Sees n h w) where
       back : (e f : Event) (p : ℕ) → forgetEvent e ≡ f → Accepts f p → Accepts e p
       back e f p z a =
           record { node = a .node; offered = ap (λ (x : Event). x .step) z ∙ a .offered; accepted = accepted-back e f z (a .accepted) }
+
+  -- an event's frames, and the sums of a history
+  pub seen-ceiling : (caps : ℕ → ℕ) → CeilingFor n caps w → CeilingFor n caps v
+  seen-ceiling caps c =
+      record {
+        ceiling = rw (same-sum extras same-extras (w .history), same-sum usersIssued same-issued (w .history), same-sum usersDelivered same-received (w .history))
+            (c .ceiling);
+        each = λ t f a. let x = map-at forgetEvent (w .history) t f a in
+            subst (λ (e : Event). StepIssues n (caps (e .node)) t (e .answer) (w .log)) (x .2) (forgotten t (x .0) (c .each t (x .0) (x .1)));
+      }
+    where
+      forgotten : (t : ℕ) (e : Event) → StepIssues n (caps (e .node)) t (e .answer) (w .log)
+          → StepIssues n (caps (e .node)) t (forgetAnswer (e .answer)) (w .log)
+      forgotten t e s = record {
+        most = rw (same-extras (e .answer), same-issued (e .answer), same-received (e .answer)) (s .most);
+        none = λ large. same-extras (e .answer) ∙ s .none large;
+        reported = same-extras (e .answer) ∙ s .reported;
+        users = same-issued (e .answer) ∙ s .users;
+      }
 
   -- the send of a frame, there and back
   sent-there : (g : Issue) (class : ℕ) → SentBy w g class → SentBy v g class

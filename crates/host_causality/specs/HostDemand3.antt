@@ -26,6 +26,8 @@ use Rattle.causality.specs.Demand3.{Step, sends, offers, delivers, BodiesOfByte
 use Rattle.causality.specs.Demand3.{IssueAt, Label, label, destination, Delivered, Held, heldAt, Earliest, Demand3For}
 use Rattle.causality.specs.ListRefusals.{ListRefusalsFor}
 use Rattle.causality.specs.AcceptedOnce.{AcceptedOnceFor}
+use Rattle.causality.specs.Ceiling.{CeilingFor}
+use Rattle.causality.specs.FrameSizes.{FrameSizesFor}
 use Rattle.causality.specs.Rights.{RightsFor, Sendable}
 use Rattle.rights.specs.Ours.{MaySend}
 use Rattle.rights.specs.Topics.{groupOf}
@@ -258,6 +260,7 @@ pub record HostDelivers (w : HostWorld) (j : ℕ) : Type 0 where
 -- permits, forbids: a send that meets none of the other checks is not refused by a class that may send its body, and is with 21 by another
 -- images: no further call is refused with 20
 -- refusals: with which numbers the steps can be refused; acceptedOnce: no frame is accepted twice; rights: who may say what
+-- ceiling: how many extra frames are issued at most, by the extras that the answers' bytes report; sizes: how long frames are
 pub record HostDemand3For (n cap : ℕ) (w : HostWorld) : Type 0 where
   pub demand3 : Demand3For n cap (seen w)
   pub accepts : (p : ℕ) (g : Issue) → Earliest (seen w) p g → ¬ Held (seen w) p (g .frame) → heldAt (seen w) (destination (g .frame)) < maxHeld
@@ -273,6 +276,8 @@ pub record HostDemand3For (n cap : ℕ) (w : HostWorld) : Type 0 where
   pub refusals : ListRefusalsFor (seen w)
   pub acceptedOnce : AcceptedOnceFor (seen w)
   pub rights : RightsFor n (seen w)
+  pub ceiling : CeilingFor n (λ i. cap) (seen w)
+  pub sizes : FrameSizesFor n (λ i. cap) (seen w)
 
 -- for every n from 2 to 12, every cap from n to n * n, and every list of calls of a host that keeps what is asked of it
 abbrev pub HostDemand3 : Type 0
