@@ -1,28 +1,36 @@
-//! Lists over links that lose, repeat, delay, reorder and damage frames, bring them to wrong nodes and starve a node, with
-//! refused calls beside the list's own.
+//! Lists over links that lose, repeat, delay, reorder and damage frames, bring them to wrong nodes, starve a node and fill
+//! a matrix, with refused calls beside the list's own.
 
 use crate::lists::{Pairs, Step, Stray, Totals};
 use generate::{frames, records, topics, Call};
+use reference::ceiling::large_cap;
 use reference::history::ensure;
 use reference::host::ANSWER;
 use reference::image::IMAGE;
 use reference::random::Random;
+use reference::rights::CLASSES;
 use reference::{DeliverAnswer, OfferAnswer, Record, SendAnswer};
 
 /// Steps between two checks of what can go on.
 const BETWEEN: usize = 50;
 
 /// Runs a list of so many steps with hostile links, then lets every frame through; demand 3's conclusions are checked
-/// on the way, before and after that. Gives what it came to beside what earlier lists did.
+/// on the way, before and after that, and the ceiling on extras in the end. Gives what it came to beside what earlier
+/// lists did.
 pub fn hostile(random: &mut Random, steps: usize, totals: Totals) -> Step<Totals> {
     let n = records::any_n(random);
-    let cap = records::any_cap(random, n);
+    let cap = any_cap(random, n);
     let mut pairs = Pairs::start_with(n, cap, totals)?;
     let (sends, delivers) = (random.within(1, 4), random.within(1, 4));
     let starved = if random.once_in(2) { random.below(steps) } else { steps };
+    let at_bound = [large_cap(n) - 1, large_cap(n)].contains(&cap);
+    let filled = if at_bound || random.once_in(4) { random.below(steps) } else { steps };
     for index in 0..steps {
         if index == starved {
             starve(random, &mut pairs)?;
+        }
+        if index == filled {
+            fill(random, &mut pairs)?;
         }
         let node = random.below(n);
         match random.below(sends + delivers + 4) {
@@ -45,7 +53,17 @@ pub fn hostile(random: &mut Random, steps: usize, totals: Totals) -> Step<Totals
     pairs.check_conclusions()?;
     let_through(&mut pairs)?;
     pairs.check_conclusions()?;
-    Ok(pairs.end())
+    pairs.end()
+}
+
+/// A cap for n nodes, in every second list at or beside the least one under which no extra frame is issued.
+fn any_cap(random: &mut Random, n: usize) -> usize {
+    let large = large_cap(n);
+    if random.once_in(2) {
+        records::any_cap(random, n)
+    } else {
+        random.pick(&[large - 1, large, large + 1]).clamp(n, n * n)
+    }
 }
 
 /// A node other than this one.
@@ -70,6 +88,33 @@ fn starve(random: &mut Random, pairs: &mut Pairs) -> Step<()> {
     }
     send_and_bring(random, pairs, from, node)?;
     pairs.check_progress()
+}
+
+/// Lets a node know of a frame from every node to every other, so that its matrix becomes full, or is trimmed on the way.
+fn fill(random: &mut Random, pairs: &mut Pairs) -> Step<()> {
+    let n = pairs.n();
+    let node = random.below(n);
+    for from in (node..n).chain(0..node) {
+        for to in (0..n).filter(|to| *to != from && *to != node) {
+            pairs.send(from, to, random.below(CLASSES), &[])?;
+        }
+        if from != node {
+            pairs.send(from, node, random.below(CLASSES), &[])?;
+            deliver_all(pairs, node)?;
+        }
+    }
+    pairs.check_full(node)
+}
+
+/// Brings every undelivered frame to a node, the earliest first, and delivers it.
+fn deliver_all(pairs: &mut Pairs, node: usize) -> Step<()> {
+    while let Some(issue) = pairs.history.earliest_to(node) {
+        pairs.offer_issue(node, issue)?;
+        let answer = pairs.deliver(node)?;
+        let delivered = matches!(answer, DeliverAnswer::Delivered(_));
+        ensure(delivered, || format!("issue {issue} to {node} is not delivered: {answer:?}"))?;
+    }
+    Ok(())
 }
 
 /// Sends any body, by any class.

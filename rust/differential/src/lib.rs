@@ -3,6 +3,7 @@
 #![forbid(unsafe_code)]
 
 pub mod arguments;
+pub mod ceilings;
 pub mod crafted;
 pub mod difference;
 pub mod hostile;

@@ -1,16 +1,18 @@
 //! Whole lists on both implementations at once.
 //!
 //! Each side keeps its own images and shelves from step to step. After every step the returned number, image, answer
-//! and buffers are compared, and what both answered goes into the list's history, of which demand 3's conclusions are
-//! then checked.
+//! and buffers are compared, and what both answered goes into the list's history, of which demand 3's conclusions and the
+//! ceiling on extras are then checked.
 
+use crate::ceilings::Ceilings;
 use crate::pair::{judge, run_lent, Lent};
 use crate::Difference;
 use generate::counts::Counts;
 use generate::{Answer, Buffers, Call, Case, Made, Outcome};
+use reference::ceiling;
 use reference::frame::Frame;
 use reference::history::{ensure, History, Wrong};
-use reference::host::ANSWER;
+use reference::host::{read_answer, ANSWER};
 use reference::image::IMAGE;
 use reference::node::OUTPUT;
 use reference::rights::{group, topic, CLASSES, GROUPS, OURS};
@@ -36,13 +38,14 @@ impl Seat {
     }
 }
 
-/// A list on both sides, its frames in issue order, and its history.
+/// A list on both sides, its frames in issue order, its history, and what each of its steps reported.
 #[derive(Clone, Debug)]
 pub struct Pairs {
     pub seats: Vec<Seat>,
     pub issued: Vec<Vec<u8>>,
     pub history: History,
     pub totals: Totals,
+    reports: Vec<ceiling::Step>,
     steps: usize,
 }
 
@@ -53,6 +56,7 @@ pub struct Totals {
     pub issued: usize,
     pub counts: Counts,
     pub reached: Reached,
+    pub ceilings: Ceilings,
 }
 
 /// How often lists came to what is rare.
@@ -70,6 +74,8 @@ pub struct Reached {
     pub astray: usize,
     /// Refused calls beside the list's own.
     pub strays: usize,
+    /// Matrices that became full, with (n − 1) × (n − 1) entries.
+    pub full: usize,
     /// Accepted sends, by the sender's class and the body's group.
     pub sent: [[usize; GROUPS]; CLASSES],
     /// Earliest undelivered frames that an offer had to take.
@@ -90,7 +96,8 @@ pub struct Stray {
     pub answer_length: usize,
 }
 
-/// Why a list stops: the two sides differ, or what both answered breaks a conclusion of demand 3, or who may say what.
+/// Why a list stops: the two sides differ, or what both answered breaks a conclusion of demand 3, who may say what, or the
+/// ceiling on extras.
 #[derive(Clone, Debug)]
 pub enum Failure {
     Differs(Box<Difference>),
@@ -116,15 +123,15 @@ impl Display for Failure {
     fn fmt(&self, f: &mut Formatter<'_>) -> std::fmt::Result {
         match self {
             Failure::Differs(difference) => difference.fmt(f),
-            Failure::Breaks(wrong) => write!(f, "BOTH SIDES BREAK DEMAND 3 OR THE RIGHTS: {wrong}"),
+            Failure::Breaks(wrong) => write!(f, "BOTH SIDES BREAK DEMAND 3, THE RIGHTS OR THE CEILING: {wrong}"),
         }
     }
 }
 
 impl Display for Totals {
     fn fmt(&self, f: &mut Formatter<'_>) -> std::fmt::Result {
-        let Totals { steps, issued, counts, reached } = self;
-        writeln!(f, "{}{reached:#?}", counts.table())?;
+        let Totals { steps, issued, counts, reached, ceilings } = self;
+        writeln!(f, "{}{reached:#?}\n{ceilings}", counts.table())?;
         write!(f, "{steps} steps compared, {issued} frames issued and delivered in causal order, no difference")
     }
 }
@@ -138,7 +145,8 @@ impl Pairs {
     /// The same, with what earlier lists came to.
     pub fn start_with(n: usize, cap: usize, totals: Totals) -> Step<Pairs> {
         let history = History::start(n, cap);
-        let mut pairs = Pairs { seats: Vec::new(), issued: Vec::new(), history, totals, steps: 0 };
+        let (seats, issued, reports) = (Vec::new(), Vec::new(), Vec::new());
+        let mut pairs = Pairs { seats, issued, history, totals, reports, steps: 0 };
         for me in 0..n {
             let case = Case { image: vec![FILL; IMAGE], ..Case::alone(Call::SetUp { me, n, cap }) };
             let found = run_lent(case.image.clone(), &case.call, &mut Buffers::default());
@@ -159,11 +167,13 @@ impl Pairs {
     pub fn send(&mut self, node: usize, to: usize, class: usize, body: &[u8]) -> Step<SendAnswer> {
         let outcome = self.step(node, Call::Send { to, class, body: body.to_vec() })?;
         let Answer::Send(answer) = outcome.answer else { unreachable!("a send answers as one") };
+        let first = self.issued.len();
         if let SendAnswer::Sent { bytes, .. } = answer {
-            let first = self.note_issued(&outcome.buffers.out[..bytes]);
+            self.note_issued(&outcome.buffers.out[..bytes])?;
             self.history.send(node, to, class, body, &self.issued[first..])?;
             self.totals.reached.sent[class][group(topic(body)) as usize] += 1;
         }
+        self.note_report(ceiling::Step::send(node, &answer, self.issued.len() - first), &outcome);
         self.check_node(node)?;
         Ok(answer)
     }
@@ -176,6 +186,7 @@ impl Pairs {
             let issue = self.history.offer(node, frame)?;
             ensure(self.issued[issue] == frame, || format!("issue {issue} was held with other bytes"))?;
         }
+        self.note_report(ceiling::Step::offer(node), &outcome);
         self.note_offer(node, answer);
         self.check_node(node)?;
         Ok(answer)
@@ -196,15 +207,17 @@ impl Pairs {
     pub fn deliver(&mut self, node: usize) -> Step<DeliverAnswer> {
         let outcome = self.step(node, Call::Deliver)?;
         let Answer::Deliver(answer) = outcome.answer else { unreachable!("a deliver answers as one") };
+        let first = self.issued.len();
         match answer {
             DeliverAnswer::Delivered(delivery) => {
-                let first = self.note_issued(&outcome.buffers.out[..delivery.bytes]);
+                self.note_issued(&outcome.buffers.out[..delivery.bytes])?;
                 let body = &outcome.buffers.body_out[..delivery.body];
                 self.history.delivery(node, &delivery, body, &self.issued[first..])?;
             }
             DeliverAnswer::None { .. } => self.history.none(node),
             DeliverAnswer::Refused(number) => return Err(format!("a deliver in a list gave {number}").into()),
         }
+        self.note_report(ceiling::Step::deliver(node, &answer, self.issued.len() - first), &outcome);
         self.check_node(node)?;
         Ok(answer)
     }
@@ -324,11 +337,22 @@ impl Pairs {
         Ok(expected)
     }
 
-    /// Takes up the frames that a step issued; gives the first one's issue.
-    fn note_issued(&mut self, bytes: &[u8]) -> usize {
-        let first = self.issued.len();
-        self.issued.extend(Frame::all_of(bytes).map(|frame| frame.bytes().to_vec()));
-        first
+    /// Takes up the frames that a step issued, which are all of the bytes that its answer counts.
+    fn note_issued(&mut self, bytes: &[u8]) -> Step<()> {
+        let frames = || Frame::all_of(bytes).map(|frame| frame.bytes());
+        let whole: usize = frames().map(<[u8]>::len).sum();
+        ensure(whole == bytes.len(), || format!("{whole} of {} issued bytes are whole frames", bytes.len()))?;
+        self.issued.extend(frames().map(<[u8]>::to_vec));
+        Ok(())
+    }
+
+    /// Notes a step with the extra frames that both sides' lent answer reports; a refusal leaves that as it was.
+    fn note_report(&mut self, step: ceiling::Step, outcome: &Outcome) {
+        let reported = match (outcome.answer.number(), outcome.buffers.answer.first_chunk()) {
+            (0, Some(answer)) => read_answer(answer).extras,
+            _ => 0,
+        };
+        self.reports.push(ceiling::Step { reported, ..step });
     }
 
     /// Counts what an offer came to at a full shelf.
@@ -352,10 +376,25 @@ impl Pairs {
         Ok(())
     }
 
-    /// What the lists came to, this one the last.
-    pub fn end(mut self) -> Totals {
+    /// The matrix of a node that knows of a frame from every node to every other is full unless its cap is below that; it
+    /// was then trimmed.
+    pub fn check_full(&mut self, node: usize) -> Step<()> {
+        let (record, full) = (self.seats[node].record(), ceiling::large_cap(self.n()));
+        let standing = record.standing();
+        if record.cap as usize >= full {
+            self.totals.reached.full += 1;
+            ensure(standing == full, || format!("{node} keeps {standing} entries of {full}"))?;
+        }
+        Ok(())
+    }
+
+    /// Holds what all steps reported to the ceiling on extras; gives what the lists came to, this one the last.
+    pub fn end(mut self) -> Step<Totals> {
+        let caps: Vec<usize> = self.seats.iter().map(|seat| seat.record().cap as usize).collect();
+        let counts = ceiling::check(&caps, &self.reports, &self.issued)?;
+        self.totals.ceilings.add(self.n(), caps[0], counts);
         self.totals.steps += self.steps;
         self.totals.issued += self.issued.len();
-        self.totals
+        Ok(self.totals)
     }
 }

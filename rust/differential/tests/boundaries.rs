@@ -1,7 +1,9 @@
-//! The largest frame, send and delivery, and sends on both sides of 21, each reached by a list on both implementations.
+//! The largest frame, send and delivery, a full matrix, an extra of a send, and sends on both sides of 21, each reached by
+//! a list on both implementations.
 
 use differential::lists::{Pairs, Step};
 use reference::boundary::{self, Steps};
+use reference::ceiling::{large_cap, Counts};
 use reference::*;
 
 /// A list on both sides, whose steps must not differ.
@@ -30,36 +32,55 @@ impl Steps for Same {
     }
 }
 
-/// A list of 12 before its first step.
-fn start(cap: usize) -> Same {
-    Same(same(Pairs::start(12, cap)))
+/// Runs a list of n nodes with this cap, whose conclusions must hold; gives what its answers came to.
+fn run<T>(n: usize, cap: usize, steps: impl FnOnce(&mut Same) -> T) -> Counts {
+    let mut list = Same(same(Pairs::start(n, cap)));
+    steps(&mut list);
+    same(list.0.check_conclusions());
+    let (lists, counts) = same(list.0.end()).ceilings.of(|_, _| true);
+    assert_eq!(lists, 1);
+    counts
 }
 
 #[test]
 fn a_frame_of_802_bytes() {
     for cap in [121, 144] {
-        boundary::frame_of_802(&mut start(cap));
+        assert_eq!(run(12, cap, boundary::frame_of_802).extras(), 0);
     }
 }
 
 #[test]
 fn a_send_of_814_bytes() {
-    boundary::send_of_814(&mut start(110));
+    assert_eq!(run(12, 110, boundary::send_of_814).extras_of_sends, 1);
 }
 
 #[test]
 fn a_delivery_of_504_bytes() {
-    boundary::delivery_of_504(&mut start(55));
+    let counts = run(12, 55, boundary::delivery_of_504);
+    assert_eq!((counts.several, counts.most), (1, 7));
 }
 
 #[test]
 fn sixteen_frames_of_802_bytes() {
-    boundary::sixteen_of_802(&mut start(144));
+    assert_eq!(run(12, 144, boundary::sixteen_of_802).extras(), 0);
 }
 
 #[test]
 fn sends_on_both_sides_of_21() {
-    let mut list = Same(same(Pairs::start(2, 4)));
-    boundary::who_may_say_what(&mut list);
-    same(list.0.check_conclusions());
+    run(2, 4, boundary::who_may_say_what);
+}
+
+#[test]
+fn a_send_that_issues_its_one_extra() {
+    let counts = run(4, 4, boundary::send_with_an_extra);
+    assert_eq!((counts.extras_of_sends, counts.extras_of_deliveries), (1, 0));
+}
+
+#[test]
+fn both_sides_of_a_large_cap() {
+    for n in 3..=12 {
+        let extras = |cap| run(n, cap, |list| boundary::full_matrix(list, n)).extras();
+        let large = large_cap(n);
+        assert_eq!([large - 1, large, large + 1, n * n].map(extras), [1, 0, 0, 0], "{n} nodes");
+    }
 }

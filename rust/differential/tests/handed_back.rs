@@ -100,7 +100,7 @@ fn run_list(random: &mut Random, totals: Totals) -> Step<Totals> {
             pairs.offer_issue(if random.once_in(8) { node } else { to }, issue)?;
         }
     }
-    Ok(pairs.totals)
+    pairs.end()
 }
 
 #[test]

@@ -1,8 +1,12 @@
-//! Whole lists on both implementations: no difference, and demand 3's conclusions hold of what both answered.
+//! Whole lists on both implementations: no difference, and demand 3's conclusions and the ceiling on extras hold of what
+//! both answered.
 
+use differential::ceilings::Ceilings;
 use differential::hostile::hostile;
 use differential::lists::{Reached, Totals};
+use reference::ceiling::large_cap;
 use reference::random::Random;
+use std::cmp::Ordering;
 
 /// Steps of a list before every frame is let through.
 const STEPS: usize = 300;
@@ -21,14 +25,35 @@ fn hostile_lists() {
         assert!(totals.counts.of(call, number) > 0, "{call} never gave {number}");
     }
     check_reached(totals.reached);
+    check_ceilings(&totals.ceilings);
 }
 
-/// Shelves starved until 15 and 16 are held, offers at wrong nodes, refused calls beside the list's own, sends of each
-/// group by each class that may and by no other, and each way to go on were met.
+/// For each number of nodes there were lists with the least cap and with caps on both sides of the least one under which
+/// no extra is issued; and one below that, extras were issued. A send issued its one extra, and deliveries several.
+fn check_ceilings(ceilings: &Ceilings) {
+    for n in 2..=12 {
+        let (caps, large) = (n..=n * n, large_cap(n));
+        let of = |cap| ceilings.of(|nodes, given| (nodes, given) == (n, cap));
+        for cap in [n, large - 1, large, large + 1].into_iter().filter(|cap| caps.contains(cap)) {
+            let (lists, counts) = of(cap);
+            assert!(lists > 0 && counts.sent > 0 && counts.delivered > 0, "no list of {n} with cap {cap}");
+            assert_eq!(counts.extras() > 0, cap < large, "{counts:?} among {n} with cap {cap}");
+        }
+    }
+    let [(below, counts), (at, none), (above, no_more)] =
+        [Ordering::Less, Ordering::Equal, Ordering::Greater].map(|side| ceilings.on(side));
+    assert!(below > 300 && at > 100 && above > 300, "{below} {at} {above}");
+    assert!(counts.extras_of_sends > 20 && counts.extras_of_deliveries > 5_000, "{counts:?}");
+    assert!(counts.several > 1_000 && counts.most > 5, "{counts:?}");
+    assert_eq!((none.extras(), no_more.extras()), (0, 0));
+}
+
+/// Shelves starved until 15 and 16 are held, offers at wrong nodes, refused calls beside the list's own, full matrices,
+/// sends of each group by each class that may and by no other, and each way to go on were met.
 fn check_reached(reached: Reached) {
     assert!(reached.fifteen_held > 0 && reached.sixteen_held > 0, "{reached:?}");
     assert!(reached.refused_at_fifteen > 0 && reached.refused_at_sixteen > 0, "{reached:?}");
-    assert!(reached.astray > 0 && reached.strays > 10_000, "{reached:?}");
+    assert!(reached.astray > 0 && reached.strays > 10_000 && reached.full > 100, "{reached:?}");
     for (class, rights) in [[1, 0, 0, 1], [0, 1, 0, 1], [0, 0, 1, 1], [0, 0, 0, 1]].into_iter().enumerate() {
         assert_eq!(rights.map(|right| right == 1), reached.sent[class].map(|sent| sent > 100), "{reached:?}");
         assert_eq!(rights.map(|right| right == 0), reached.sent[class].map(|sent| sent == 0), "{reached:?}");

@@ -48,8 +48,19 @@ fn stored_inputs() {
 }
 
 #[test]
+fn the_example_of_docs_bus_is_one_of_them() {
+    let [example, stored] = ["examples/bus.yard", "crates/yard_examples/data/nine_entries_cap_4"].map(read);
+    assert_eq!(example, stored);
+}
+
+#[test]
 fn an_output_that_cannot_be_written_is_told() {
-    let input = std::fs::read(from_top("examples/detour.yard")).expect("the example is there");
+    let input = read("examples/detour.yard");
     let complaint = complaint(&compiled("yard"), &input).expect("the yard runs");
     assert_eq!(String::from_utf8_lossy(&complaint), "yard: the output cannot be written\n");
+}
+
+/// The bytes of a file of the repository.
+fn read(path: &str) -> Vec<u8> {
+    std::fs::read(from_top(path)).unwrap_or_else(|error| panic!("{path}: {error}"))
 }

@@ -1,6 +1,6 @@
-//! Lists that reach the largest frame, send and delivery, and a full shelf. They run on anything that takes a list's
-//! steps, so that one implementation can be tested by them and two can be compared. And sends on both sides of 21, and
-//! loads that come to the end of their issues, or have halves in their shares.
+//! Lists that reach the largest frame, send and delivery, a full shelf, a full matrix, and an extra of a send. They run
+//! on anything that takes a list's steps, so that one implementation can be tested by them and two can be compared. And
+//! sends on both sides of 21, and loads that come to the end of their issues, or have halves in their shares.
 
 use crate::list::List;
 use crate::node::Delivery;
@@ -148,14 +148,39 @@ fn send_all(list: &mut impl Steps, i: usize, nodes: RangeInclusive<usize>) {
     }
 }
 
+/// Sends from x to each of the nodes 1 to the last given, and then to 0, where that is delivered.
+fn tell(list: &mut impl Steps, x: usize, last: usize) -> Delivery {
+    send_all(list, x, 1..=last);
+    let issue = send_ok(list, x, 0);
+    bring(list, issue)
+}
+
 /// Lets node 0 of 12 know of a frame from every other node to each of the nodes 1 to the last given.
 fn know(list: &mut impl Steps, last: usize) {
     send_all(list, 0, 1..=last);
     for x in 1..12 {
-        send_all(list, x, 1..=last);
-        let issue = send_ok(list, x, 0);
-        assert_eq!(bring(list, issue).extras, 0);
+        assert_eq!(tell(list, x, last).extras, 0);
     }
+}
+
+/// The delivery at node 0 of n after which its matrix is full, (n − 1) × (n − 1) entries, under a cap of one less or more.
+pub fn full_matrix(list: &mut impl Steps, n: usize) -> Delivery {
+    let last = n - 1;
+    send_all(list, 0, 1..=last);
+    for x in 1..last {
+        assert_eq!(tell(list, x, last).extras, 0);
+    }
+    tell(list, last, last)
+}
+
+/// The send to 3 at node 0 of 4 that issues one extra frame, to 1 (cap 4): four entries stand, and the send adds one.
+pub fn send_with_an_extra(list: &mut impl Steps) {
+    for (i, j) in [(0, 1), (0, 2), (3, 1), (3, 2)] {
+        send_ok(list, i, j);
+    }
+    let issue = send_ok(list, 3, 0);
+    assert_eq!(bring(list, issue).extras, 0);
+    assert_eq!(list.send(0, 3, MOVER, &[]), SendAnswer::Sent { bytes: 36 + 24, extras: 1 });
 }
 
 /// A frame of 802 bytes (n 12, cap 121 or more), held at node 5, where it waits; gives its issue.

@@ -5,6 +5,7 @@
 #![forbid(unsafe_code)]
 
 pub mod boundary;
+pub mod ceiling;
 pub mod cursor;
 pub mod draft;
 pub mod event;

@@ -1,5 +1,6 @@
 //! Whole lists over hostile links: loss, repetition, delay, reorder.
 
+use reference::ceiling::{self, Counts, Step};
 use reference::draft::repair;
 use reference::frame::USER;
 use reference::history::History;
@@ -8,10 +9,11 @@ use reference::random::Random;
 use reference::rights::OURS;
 use reference::*;
 
-/// A list with its history.
+/// A list with its history, and what the caller of each step sees.
 struct Run {
     list: List,
     history: History,
+    steps: Vec<Step>,
     /// For each issue, whether it is lost: it is then not brought for a long time.
     lost: Vec<bool>,
     /// The issue and the class of each accepted send.
@@ -27,7 +29,7 @@ impl Run {
         let n = random.within(2, 12);
         let cap = if random.once_in(2) { n } else { random.within(n, n * n) };
         let (list, history) = (List::start(n, cap).unwrap(), History::start(n, cap));
-        Run { list, history, lost: Vec::new(), said: Vec::new(), unsaid: 0, random }
+        Run { list, history, steps: Vec::new(), lost: Vec::new(), said: Vec::new(), unsaid: 0, random }
     }
 
     /// Loses some of the frames that were issued since.
@@ -43,7 +45,9 @@ impl Run {
         let body = self.random.bytes(length);
         let class = self.class(&body);
         let issue = self.list.issued.len();
-        match self.list.send(i, j, class, &body) {
+        let answer = self.list.send(i, j, class, &body);
+        self.steps.push(Step::send(i, &answer, self.list.issued.len() - issue));
+        match answer {
             SendAnswer::Refused(21) => {
                 assert!(i != j && j < self.list.n() && length <= 64);
                 self.unsaid += 1;
@@ -83,6 +87,12 @@ impl Run {
         assert!(wrong.starts_with(&format!("issue {issue} ")) && wrong.contains(&format!("class {class}")), "{wrong}");
     }
 
+    /// What the answers come to, which is within the ceiling on extras.
+    fn counts(&self) -> Counts {
+        let caps: Vec<usize> = self.list.seats.iter().map(|seat| seat.record.cap as usize).collect();
+        ceiling::check(&caps, &self.steps, &self.list.issued).unwrap()
+    }
+
     /// Brings one of the newest or of all frames, mostly to its destination.
     fn offer(&mut self) {
         let count = self.list.issued.len();
@@ -98,6 +108,7 @@ impl Run {
 
     /// An offer of an issue at a node.
     fn bring(&mut self, node: usize, issue: usize) {
+        self.steps.push(Step::offer(node));
         if let OfferAnswer::Held { held, .. } = self.list.offer(node, issue) {
             assert_eq!(self.history.offer(node, &self.list.issued[issue]), Ok(issue));
             assert!(held <= 16 && held == self.history.held_at(node));
@@ -107,6 +118,7 @@ impl Run {
     fn deliver(&mut self, node: usize) -> bool {
         let before = self.list.seats[node].record.held as usize;
         let (answer, body) = self.list.deliver(node);
+        self.steps.push(Step::deliver(node, &answer, self.list.issued.len() - self.lost.len()));
         match answer {
             DeliverAnswer::Refused(number) => panic!("deliver gave {number}"),
             DeliverAnswer::None { looked } => {
@@ -185,7 +197,7 @@ impl Run {
 
 #[test]
 fn lists_keep_their_promises() {
-    let (mut delivered, mut extras, mut unsaid) = (0, 0, 0);
+    let (mut delivered, mut extras, mut unsaid, mut counts) = (0, 0, 0, Vec::new());
     for seed in 0..100 {
         let mut run = Run::start(seed);
         for step in 0..600 {
@@ -201,10 +213,14 @@ fn lists_keep_their_promises() {
         run.history.check_causal_order().unwrap();
         run.check_numbers();
         run.check_rights();
+        counts.push(run.counts());
         unsaid += run.unsaid;
         delivered += run.list.issued.len();
         extras += (0..run.list.issued.len()).filter(|issue| run.list.frame(*issue).kind() != USER).count();
     }
     assert!(delivered > 10_000 && extras > 1_000 && unsaid > 1_000, "{delivered} {extras} {unsaid}");
+    let counts: Counts = counts.into_iter().sum();
+    assert_eq!((counts.sent + extras, counts.delivered + extras, counts.extras()), (delivered, delivered, extras));
+    assert!(counts.extras_of_sends > 0 && counts.several > 100, "{counts:?}");
     println!("{delivered} frames delivered, {extras} of them extras, {unsaid} sends refused with 21");
 }
