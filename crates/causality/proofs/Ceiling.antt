@@ -8,14 +8,14 @@ use native.Mathlib.Nat.{mul-add}
 use native.Mathlib.Omega.{arith}
 use lib.Dec.{eqb}
 use lib.ListN.{getElem?}
-use Rattle.causality.proofs.Matches.{Matches, encodeIssue, named, same-back}
+use Rattle.causality.proofs.Matches.{Matches, SameAnswer, SameEvent, SameHistory, empty, encodeIssue, named, next, same-back}
 use Rattle.causality.proofs.Reading.{kind-encode}
-use Rattle.causality.specs.Ceiling.{CeilingFor, StepIssues, extras, framesBy, userNamed, usersDelivered, usersIssued}
+use Rattle.causality.specs.Ceiling.{CeilingFor, StepIssues, extras, framesBy, framesOf, userNamed, usersDelivered, usersIssued}
 use Rattle.causality.specs.Demand3.{Answer, Event, World, sumOver}
 use Rattle.frame.specs.Frame.{encode}
 use Rattle.frame.specs.Header.{header, kindByte}
 use Rattle.matrix.specs.Message.{Kind, Message, extra, user}
-use Rattle.protocol.proofs.Ceiling.{ByKind, Reported, received, sumBy, users}
+use Rattle.protocol.proofs.Ceiling.{ByKind, Reported, messagesOf, received, sumBy, sumOf, users}
 use Rattle.protocol.proofs.Ceiling as counted
 use Rattle.protocol.proofs.Extras.{oneUser}
 use Rattle.protocol.specs.Answer as protocol
@@ -44,6 +44,17 @@ frames-by t kind (g ∷ l) = ap₂ _+_ (both (eqb (g .step) t) (eqb (header (enc
     both : (b c : Bool) → _≡_ {A = ℕ} (cond (b && c) 1 0) (cond b (cond c 1 0) 0)
     both true c = refl
     both false c = refl
+
+frames-of : (kind : ℕ) (l : List messages.Issue) → framesOf kind (map encodeIssue l) ≡ sumOf (ofKind kind) (messagesOf l)
+frames-of kind [] = refl
+frames-of kind (g ∷ l) = ap (λ (k : ℕ). ofKind kind (g .message) + k) (frames-of kind l)
+
+-- a sum of one number over one history, and of another over another
+sum-same : (f : protocol.Answer → ℕ) (h : Answer → ℕ) (l : List messages.Event) (k : List Event) → SameHistory l k
+    → ((t : ℕ) (e : messages.Event) (x : Event) → getElem? l t ≡ some e → SameEvent e x → f (e .answer) ≡ h (x .answer))
+    → counted.sumOver f l ≡ sumOver h k
+sum-same f h _ _ empty b = refl
+sum-same f h _ _ (next e x l k s r) b = ap₂ _+_ (b 0 e x refl s) (sum-same f h l k r (λ t a c at. b (suc t) a c at))
 
 -- by the byte of a kind
 by-kind : (kind : ℕ) → ByKind (ofKind kind) (cond (eqb 1 kind) 1 0) (cond (eqb 2 kind) 1 0)
@@ -86,8 +97,19 @@ module _ (n : ℕ) (caps : ℕ → ℕ) (w : messages.World) (b : World) (m : Ma
         users = omega (arith, same .users, frames-issued t 1 e (x .1));
       }
 
+  -- the frames of one kind in the log, where h counts those of each answer
+  frames-all : (kind : ℕ) (h : Answer → ℕ)
+      → ((a : protocol.Answer) (x : Answer) → SameAnswer a x → cond (eqb 1 kind) 1 0 * users a + cond (eqb 2 kind) 1 0 * counted.extras a ≡ h x)
+      → framesOf kind (b .log) ≡ sumOver h (b .history)
+  frames-all kind h same =
+      ap (framesOf kind) (m .log) ∙ frames-of kind (w .log) ∙ r .whole (ofKind kind)
+      ∙ sum-same (λ a. sumOf (ofKind kind) (protocol.issued a)) h (w .history) (b .history) (m .history)
+      (λ t e x at s. r .each t e at .kinds (ofKind kind) _ _ (by-kind kind) ∙ same (e .answer) (x .answer) (s .answer))
+
   pub ceiling-for : CeilingFor n caps b
   ceiling-for = record {
     ceiling = sum-most (n - 1) extras usersIssued usersDelivered (b .history) (λ t e at. step-issues t e at .most);
     each = step-issues;
+    all = frames-all 2 extras (λ a x s. omega (arith, s .extras));
+    users = frames-all 1 usersIssued (λ a x s. omega (arith, s .users));
   }

@@ -42,6 +42,11 @@ abbrev pub framesBy : (t kind : ℕ) → List Issue → ℕ
 framesBy t kind [] = 0
 framesBy t kind (g ∷ l) = cond (eqb (g .step) t && eqb (header (g .frame) .kind) kind) 1 0 + framesBy t kind l
 
+-- how many frames of this kind the log has
+abbrev pub framesOf : (kind : ℕ) → List Issue → ℕ
+framesOf kind [] = 0
+framesOf kind (g ∷ l) = cond (eqb (header (g .frame) .kind) kind) 1 0 + framesOf kind l
+
 -- what a step of n nodes, answered with a by a node with this cap, issues; t is its place in the history
 -- most: a send at most one extra frame, the delivery of a user frame at most n - 1, and every other step none
 -- none: a node whose cap is (n - 1) * (n - 1) or more none
@@ -54,9 +59,12 @@ pub record StepIssues (n cap t : ℕ) (a : Answer) (log : List Issue) : Type 0 w
 
 -- ceiling: over the whole history, the extra frames are at most the user frames issued plus (n - 1) times the user frames delivered
 -- each: every step keeps its part
+-- all, users: the log has as many extra frames, and as many user frames, as the answers count together
 pub record CeilingFor (n : ℕ) (caps : ℕ → ℕ) (w : World) : Type 0 where
   pub ceiling : sumOver extras (w .history) ≤ sumOver usersIssued (w .history) + (n - 1) * sumOver usersDelivered (w .history)
   pub each : (t : ℕ) (e : Event) → getElem? (w .history) t ≡ some e → StepIssues n (caps (e .node)) t (e .answer) (w .log)
+  pub all : framesOf 2 (w .log) ≡ sumOver extras (w .history)
+  pub users : framesOf 1 (w .log) ≡ sumOver usersIssued (w .history)
 
 -- for the lists of demand 3
 abbrev pub Ceiling : Type 0

@@ -1,7 +1,7 @@
 -- What the steps of a list report and issue: each keeps the bounds on extra messages, and the log has for each step what its answer says. Assumes nothing.
 use Prim.Native.Nat.{ℕ, zero, suc, _+_, _*_, _-_, _≤_, _<_}
 use mathlib.Core.Bool.{cond}
-use mathlib.Core.List.{List, [], _∷_, _++_, map}
+use mathlib.Core.List.{List, [], _∷_, _++_, map, map-append, map-id, map-map}
 use mathlib.Core.Logic.{inl, inr, _≢_}
 use mathlib.Core.Option.{some}
 use mathlib.Core.Path.{_≡_, _∙_, ap, refl, subst, sym}
@@ -64,6 +64,15 @@ sumOf p (m ∷ l) = p m + sumOf p l
 abbrev pub sumBy : (Message → ℕ) → ℕ → List Issue → ℕ
 sumBy p t [] = 0
 sumBy p t (g ∷ l) = cond (eqb (g .step) t) (p (g .message)) 0 + sumBy p t l
+
+-- the messages of a log
+abbrev pub messagesOf : List Issue → List Message
+messagesOf l = map (λ (g : Issue). g .message) l
+
+-- the sum, over a history, of a number of each answer
+abbrev pub sumOver : (Answer → ℕ) → List Event → ℕ
+sumOver f [] = 0
+sumOver f (e ∷ l) = f (e .answer) + sumOver f l
 
 -- a number that each user message and each extra message has
 pub record ByKind (p : Message → ℕ) (u x : ℕ) : Type 0 where
@@ -170,11 +179,27 @@ sumBy-other : (p : Message → ℕ) (t u : ℕ) (l : List Message) → u ≢ t �
 sumBy-other p t u [] ne = refl
 sumBy-other p t u (m ∷ l) ne = omega (arith, cond-other u t (p m) 0 ne, sumBy-other p t u l ne)
 
--- a world's log has for each step what its answer says, and nothing of a later step; and each answer is within the bounds
+-- ---- the whole log
+
+sumOf-append : (p : Message → ℕ) (l k : List Message) → sumOf p (l ++ k) ≡ sumOf p l + sumOf p k
+sumOf-append p [] k = omega arith
+sumOf-append p (m ∷ l) k = omega (arith, sumOf-append p l k)
+
+messages-grown : (l : List Issue) (t : ℕ) (k : List Message) → messagesOf (l ++ map (issuedBy t) k) ≡ messagesOf l ++ k
+messages-grown l t k =
+    map-append (λ (g : Issue). g .message) l (map (issuedBy t) k)
+    ∙ ap (λ (x : List Message). messagesOf l ++ x) (map-map (λ (g : Issue). g .message) (issuedBy t) k ∙ map-id k)
+
+sumOver-snoc : (f : Answer → ℕ) (l : List Event) (e : Event) → sumOver f (l ++ (e ∷ [])) ≡ sumOver f l + f (e .answer)
+sumOver-snoc f [] e = omega arith
+sumOver-snoc f (x ∷ l) e = omega (arith, sumOver-snoc f l e)
+
+-- a world's log has for each step what its answer says, and nothing of a later step; all of it is what the answers say; each answer is within the bounds
 pub record Reported (n : ℕ) (caps : ℕ → ℕ) (w : World) : Type 0 where
   pub each : (t : ℕ) (e : Event) → getElem? (w .history) t ≡ some e → Within n (caps (e .node)) (e .answer)
   pub logged : (p : Message → ℕ) (t : ℕ) (e : Event) → getElem? (w .history) t ≡ some e → sumBy p t (w .log) ≡ sumOf p (issued (e .answer))
   pub later : (p : Message → ℕ) (t : ℕ) → length (w .history) ≤ t → sumBy p t (w .log) ≡ 0
+  pub whole : (p : Message → ℕ) → sumOf p (messagesOf (w .log)) ≡ sumOver (λ a. sumOf p (issued a)) (w .history)
 
 -- one step more
 module _ (n : ℕ) (caps : ℕ → ℕ) (w : World) (before : Reported n caps w) (i : ℕ) (s : Step) (r : Outcome) (within : Within n (caps i) (r .answer)) where
@@ -194,6 +219,13 @@ module _ (n : ℕ) (caps : ℕ → ℕ) (w : World) (before : Reported n caps w)
       sumBy-append p t (w .log) new,
       before .later p t (omega (arith, length-snoc (w .history) last)),
       sumBy-other p t (length (w .history)) (issued (r .answer)) (λ q. omega (arith, length-snoc (w .history) last)),
+    );
+    whole = λ p. omega (
+      arith,
+      ap (sumOf p) (messages-grown (w .log) (length (w .history)) (issued (r .answer))),
+      sumOf-append p (messagesOf (w .log)) (issued (r .answer)),
+      before .whole p,
+      sumOver-snoc (λ a. sumOf p (issued a)) (w .history) last,
     );
   }
     where
@@ -233,4 +265,4 @@ run-reported n caps w (s ∷ l) g before = run-reported n caps (step n w s) l (s
 
 -- from fresh nodes
 pub start-reported : (n : ℕ) (caps : ℕ → ℕ) → Reported n caps (start n caps)
-start-reported n caps = record { each = λ t e at. absurd (at-none t e at); logged = λ p t e at. absurd (at-none t e at); later = λ p t h. refl }
+start-reported n caps = record { each = λ t e at. absurd (at-none t e at); logged = λ p t e at. absurd (at-none t e at); later = λ p t h. refl; whole = λ p. refl }
