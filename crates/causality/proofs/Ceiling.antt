@@ -10,7 +10,7 @@ use lib.Dec.{eqb}
 use lib.ListN.{getElem?}
 use Rattle.causality.proofs.Matches.{Matches, SameAnswer, SameEvent, SameHistory, empty, encodeIssue, named, next, same-back}
 use Rattle.causality.proofs.Reading.{kind-encode}
-use Rattle.causality.specs.Ceiling.{CeilingFor, StepIssues, extras, framesBy, framesOf, userNamed, usersDelivered, usersIssued}
+use Rattle.causality.specs.Ceiling.{CeilingFor, StepIssues, extras, framesBy, framesOfKind, userNamed, usersDelivered, usersIssued}
 use Rattle.causality.specs.Demand3.{Answer, Event, World, sumOver}
 use Rattle.frame.specs.Frame.{encode}
 use Rattle.frame.specs.Header.{header, kindByte}
@@ -45,7 +45,7 @@ frames-by t kind (g ∷ l) = ap₂ _+_ (both (eqb (g .step) t) (eqb (header (enc
     both true c = refl
     both false c = refl
 
-frames-of : (kind : ℕ) (l : List messages.Issue) → framesOf kind (map encodeIssue l) ≡ sumOf (ofKind kind) (messagesOf l)
+frames-of : (kind : ℕ) (l : List messages.Issue) → framesOfKind kind (map encodeIssue l) ≡ sumOf (ofKind kind) (messagesOf l)
 frames-of kind [] = refl
 frames-of kind (g ∷ l) = ap (λ (k : ℕ). ofKind kind (g .message) + k) (frames-of kind l)
 
@@ -100,9 +100,9 @@ module _ (n : ℕ) (caps : ℕ → ℕ) (w : messages.World) (b : World) (m : Ma
   -- the frames of one kind in the log, where h counts those of each answer
   frames-all : (kind : ℕ) (h : Answer → ℕ)
       → ((a : protocol.Answer) (x : Answer) → SameAnswer a x → cond (eqb 1 kind) 1 0 * users a + cond (eqb 2 kind) 1 0 * counted.extras a ≡ h x)
-      → framesOf kind (b .log) ≡ sumOver h (b .history)
+      → framesOfKind kind (b .log) ≡ sumOver h (b .history)
   frames-all kind h same =
-      ap (framesOf kind) (m .log) ∙ frames-of kind (w .log) ∙ r .whole (ofKind kind)
+      ap (framesOfKind kind) (m .log) ∙ frames-of kind (w .log) ∙ r .whole (ofKind kind)
       ∙ sum-same (λ a. sumOf (ofKind kind) (protocol.issued a)) h (w .history) (b .history) (m .history)
       (λ t e x at s. r .each t e at .kinds (ofKind kind) _ _ (by-kind kind) ∙ same (e .answer) (x .answer) (s .answer))
 
@@ -110,6 +110,6 @@ module _ (n : ℕ) (caps : ℕ → ℕ) (w : messages.World) (b : World) (m : Ma
   ceiling-for = record {
     ceiling = sum-most (n - 1) extras usersIssued usersDelivered (b .history) (λ t e at. step-issues t e at .most);
     each = step-issues;
-    all = frames-all 2 extras (λ a x s. omega (arith, s .extras));
-    users = frames-all 1 usersIssued (λ a x s. omega (arith, s .users));
+    extraFrames = frames-all 2 extras (λ a x s. omega (arith, s .extras));
+    userFrames = frames-all 1 usersIssued (λ a x s. omega (arith, s .users));
   }

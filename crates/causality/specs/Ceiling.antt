@@ -29,11 +29,12 @@ usersIssued (sent (send.Sent bytes count)) = 1
 usersIssued (offered a) = 0
 usersIssued (delivered a) = 0
 
--- user frames delivered: 1 for a delivery whose answer says kind 1
+-- 1 for what names a user frame, by its kind
 abbrev pub userNamed : Option Label → ℕ
 userNamed none = 0
 userNamed (some a) = cond (eqb (a .kind) 1) 1 0
 
+-- user frames delivered: 1 for a delivery whose answer says kind 1
 abbrev pub usersDelivered : Answer → ℕ
 usersDelivered a = userNamed (delivery a)
 
@@ -43,9 +44,9 @@ framesBy t kind [] = 0
 framesBy t kind (g ∷ l) = cond (eqb (g .step) t && eqb (header (g .frame) .kind) kind) 1 0 + framesBy t kind l
 
 -- how many frames of this kind the log has
-abbrev pub framesOf : (kind : ℕ) → List Issue → ℕ
-framesOf kind [] = 0
-framesOf kind (g ∷ l) = cond (eqb (header (g .frame) .kind) kind) 1 0 + framesOf kind l
+abbrev pub framesOfKind : (kind : ℕ) → List Issue → ℕ
+framesOfKind kind [] = 0
+framesOfKind kind (g ∷ l) = cond (eqb (header (g .frame) .kind) kind) 1 0 + framesOfKind kind l
 
 -- what a step of n nodes, answered with a by a node with this cap, issues; t is its place in the history
 -- most: a send at most one extra frame, the delivery of a user frame at most n - 1, and every other step none
@@ -59,12 +60,12 @@ pub record StepIssues (n cap t : ℕ) (a : Answer) (log : List Issue) : Type 0 w
 
 -- ceiling: over the whole history, the extra frames are at most the user frames issued plus (n - 1) times the user frames delivered
 -- each: every step keeps its part
--- all, users: the log has as many extra frames, and as many user frames, as the answers count together
+-- extraFrames, userFrames: the log has as many extra frames, and as many user frames, as the answers count together
 pub record CeilingFor (n : ℕ) (caps : ℕ → ℕ) (w : World) : Type 0 where
   pub ceiling : sumOver extras (w .history) ≤ sumOver usersIssued (w .history) + (n - 1) * sumOver usersDelivered (w .history)
   pub each : (t : ℕ) (e : Event) → getElem? (w .history) t ≡ some e → StepIssues n (caps (e .node)) t (e .answer) (w .log)
-  pub all : framesOf 2 (w .log) ≡ sumOver extras (w .history)
-  pub users : framesOf 1 (w .log) ≡ sumOver usersIssued (w .history)
+  pub extraFrames : framesOfKind 2 (w .log) ≡ sumOver extras (w .history)
+  pub userFrames : framesOfKind 1 (w .log) ≡ sumOver usersIssued (w .history)
 
 -- for the lists of demand 3
 abbrev pub Ceiling : Type 0

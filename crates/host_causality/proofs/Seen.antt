@@ -228,8 +228,8 @@ module _ (n : ℕ) (h : HostWorld) (w : World) (m : Sees n h w) where
   pub seen-ceiling : (caps : ℕ → ℕ) → CeilingFor n caps w → CeilingFor n caps v
   seen-ceiling caps c =
       record {
-        all = c .all ∙ sym (same-sum extras same-extras (w .history));
-        users = c .users ∙ sym (same-sum usersIssued same-issued (w .history));
+        extraFrames = c .extraFrames ∙ sym (same-sum extras same-extras (w .history));
+        userFrames = c .userFrames ∙ sym (same-sum usersIssued same-issued (w .history));
         ceiling = rw (same-sum extras same-extras (w .history), same-sum usersIssued same-issued (w .history), same-sum usersDelivered same-received (w .history))
             (c .ceiling);
         each = λ t f a. let x = map-at forgetEvent (w .history) t f a in

@@ -24,7 +24,7 @@ oneUser extra = 0
 -- a node that keeps the record rules
 module _ (d : Node) (me : d .me < d .n) (twelve : d .n ≤ maxNodes) (least : d .n ≤ d .cap) (rules : MatrixRules (d .n) (d .me) (d .matrix)) where
   -- what any trim issues
-  pub trim-most : (m : Matrix) → MatrixRules (d .n) (d .me) m → length (trim d m .extras) ≤ d .n - 1
+  trim-most : (m : Matrix) → MatrixRules (d .n) (d .me) m → length (trim d m .extras) ≤ d .n - 1
   trim-most m f =
       omega (
         arith,
