@@ -14,7 +14,7 @@ fn main() {
         return;
     }
     let before = PathBuf::from(variable("BEFORE"));
-    // No linker looks at parameters: the archive has to be the one of the landing before classes came.
+    // No linker looks at parameters: the archive has to be one whose calls have the present ones.
     assert!(before.ends_with("libhost.a"), "BEFORE is not the path of a libhost.a: {}", before.display());
     let after = Path::new(&variable("CARGO_MANIFEST_DIR")).join("../../target/staticlib/libhost.a");
     let folder = PathBuf::from(variable("OUT_DIR"));

@@ -36,7 +36,7 @@ use Rattle.rights.specs.Rights.{camera, lacksRight, mover, panel}
 use Rattle.rights.specs.Topics.{group, motion}
 use Rattle.wire.proofs.Bytes.{small-bytes}
 use Rattle.wire.specs.Bytes.{le16, le32, u16At, u32At}
-use Rattle.wire.specs.Trailer.{checksum, countBack, hasTrailer, sealed, sumBack, total, trailer}
+use Rattle.wire.specs.Trailer.{checksum, countBack, hasTrailer, sealed, sumBack, trailer}
 use Rattle.node.specs.declared.SendAnswer.the-variants as send
 use Rattle.node.specs.declared.OfferAnswer.the-variants as offer
 use Rattle.node.specs.declared.DeliverAnswer.the-variants as deliver
@@ -104,13 +104,13 @@ story =
 
 -- its frames: "closed" and the report carry that "closing" was sent to the archive
 abbrev closingFrame : List ℕ
-closingFrame = 1 ∷ 0 ∷ 2 ∷ 0 ∷ 8 ∷ 3 ∷ 3 ∷ 0 ∷ 1 ∷ 99 ∷ 108 ∷ 111 ∷ 115 ∷ 105 ∷ 110 ∷ 103 ∷ 16 ∷ 0 ∷ 17 ∷ 3 ∷ []
+closingFrame = 1 ∷ 0 ∷ 2 ∷ 0 ∷ 8 ∷ 3 ∷ 3 ∷ 0 ∷ 1 ∷ 99 ∷ 108 ∷ 111 ∷ 115 ∷ 105 ∷ 110 ∷ 103 ∷ 16 ∷ 0 ∷ 156 ∷ 39 ∷ []
 
 abbrev closedFrame : List ℕ
-closedFrame = 1 ∷ 0 ∷ 1 ∷ 1 ∷ 7 ∷ 3 ∷ 3 ∷ 0 ∷ 0 ∷ 2 ∷ 1 ∷ 0 ∷ 0 ∷ 0 ∷ 1 ∷ 99 ∷ 108 ∷ 111 ∷ 115 ∷ 101 ∷ 100 ∷ 21 ∷ 0 ∷ 163 ∷ 2 ∷ []
+closedFrame = 1 ∷ 0 ∷ 1 ∷ 1 ∷ 7 ∷ 3 ∷ 3 ∷ 0 ∷ 0 ∷ 2 ∷ 1 ∷ 0 ∷ 0 ∷ 0 ∷ 1 ∷ 99 ∷ 108 ∷ 111 ∷ 115 ∷ 101 ∷ 100 ∷ 21 ∷ 0 ∷ 25 ∷ 48 ∷ []
 
 abbrev reportFrame : List ℕ
-reportFrame = 1 ∷ 1 ∷ 2 ∷ 1 ∷ 7 ∷ 3 ∷ 3 ∷ 0 ∷ 0 ∷ 2 ∷ 1 ∷ 0 ∷ 0 ∷ 0 ∷ 40 ∷ 114 ∷ 101 ∷ 112 ∷ 111 ∷ 114 ∷ 116 ∷ 21 ∷ 0 ∷ 238 ∷ 2 ∷ []
+reportFrame = 1 ∷ 1 ∷ 2 ∷ 1 ∷ 7 ∷ 3 ∷ 3 ∷ 0 ∷ 0 ∷ 2 ∷ 1 ∷ 0 ∷ 0 ∷ 0 ∷ 40 ∷ 114 ∷ 101 ∷ 112 ∷ 111 ∷ 114 ∷ 116 ∷ 21 ∷ 0 ∷ 250 ∷ 52 ∷ []
 
 abbrev storyFrames : List Issue
 storyFrames = issuedBy 0 closingFrame ∷ issuedBy 1 closedFrame ∷ issuedBy 4 reportFrame ∷ []
@@ -119,7 +119,7 @@ pub story-frames : after story .log ≡ storyFrames
 unfolding story step setUp inRange cutFor sendCall offerCall deliverCall brokenRecord brokenRules zeroDiagonal zeroColumn withinLimit zeroFrom count columnCount
     flat entry atLimit protocolSend.send protocolOffer.offer protocolDeliver.deliver deliverable trimFor fullest clear only merge framesOf encode sealed front
     headerBytes headerOf header ownLength entriesBytes entryBytes entriesOf listed placed entriesFrom entryAt matrixOf le16 le32 u16At u32At bytes.put trailer
-    trailers.counted checksum total decode wrongQueue sameBytes heldRefused someRefused someAlike arrivalRefusal frameRefusal wrongTrailer hasTrailer countBack
+    trailers.counted checksum decode wrongQueue sameBytes heldRefused someRefused someAlike arrivalRefusal frameRefusal wrongTrailer hasTrailer countBack
     sumBack wrongKind wrongAddress wrongContent wrongBody wrongEntries eachOk entryOk precedes rising risingAfter zeros padded slots frameIn heldFrames without ours lacksRight group
 story-frames = refl
 
@@ -146,7 +146,7 @@ pub story-events : after story .history ≡ storyEvents
 unfolding story step setUp inRange cutFor sendCall offerCall deliverCall brokenRecord brokenRules zeroDiagonal zeroColumn withinLimit zeroFrom count columnCount
     flat entry atLimit protocolSend.send protocolOffer.offer protocolDeliver.deliver deliverable trimFor fullest clear only merge framesOf encode sealed front
     headerBytes headerOf header ownLength entriesBytes entryBytes entriesOf listed placed entriesFrom entryAt matrixOf le16 le32 u16At u32At bytes.put trailer
-    trailers.counted checksum total decode wrongQueue sameBytes heldRefused someRefused someAlike arrivalRefusal frameRefusal wrongTrailer hasTrailer countBack
+    trailers.counted checksum decode wrongQueue sameBytes heldRefused someRefused someAlike arrivalRefusal frameRefusal wrongTrailer hasTrailer countBack
     sumBack wrongKind wrongAddress wrongContent wrongBody wrongEntries eachOk entryOk precedes rising risingAfter zeros padded slots frameIn heldFrames without ours lacksRight group
 story-events = refl
 
@@ -220,16 +220,16 @@ tie-answers : answers tie
 unfolding tie step setUp inRange cutFor sendCall offerCall deliverCall brokenRecord brokenRules zeroDiagonal zeroColumn withinLimit zeroFrom count columnCount
     flat entry atLimit protocolSend.send protocolOffer.offer protocolDeliver.deliver deliverable trimFor fullest clear only merge framesOf encode sealed front
     headerBytes headerOf header ownLength entriesBytes entryBytes entriesOf listed placed entriesFrom entryAt matrixOf le16 le32 u16At u32At bytes.put trailer
-    trailers.counted checksum total decode wrongQueue sameBytes heldRefused someRefused someAlike arrivalRefusal frameRefusal wrongTrailer hasTrailer countBack
+    trailers.counted checksum decode wrongQueue sameBytes heldRefused someRefused someAlike arrivalRefusal frameRefusal wrongTrailer hasTrailer countBack
     sumBack wrongKind wrongAddress wrongContent wrongBody wrongEntries eachOk entryOk precedes rising risingAfter zeros padded slots frameIn heldFrames without ours lacksRight group
 tie-answers = refl
 
 -- it carries (0,1) = 1 and (2,1) = 1
-tie-extra : drop 6 (frames tie) ≡ (2 ∷ 0 ∷ 1 ∷ 2 ∷ 0 ∷ 3 ∷ 3 ∷ 0 ∷ 0 ∷ 1 ∷ 1 ∷ 0 ∷ 0 ∷ 0 ∷ 2 ∷ 1 ∷ 1 ∷ 0 ∷ 0 ∷ 0 ∷ 20 ∷ 0 ∷ 37 ∷ 0 ∷ []) ∷ []
+tie-extra : drop 6 (frames tie) ≡ (2 ∷ 0 ∷ 1 ∷ 2 ∷ 0 ∷ 3 ∷ 3 ∷ 0 ∷ 0 ∷ 1 ∷ 1 ∷ 0 ∷ 0 ∷ 0 ∷ 2 ∷ 1 ∷ 1 ∷ 0 ∷ 0 ∷ 0 ∷ 20 ∷ 0 ∷ 44 ∷ 2 ∷ []) ∷ []
 unfolding tie step setUp inRange cutFor sendCall offerCall deliverCall brokenRecord brokenRules zeroDiagonal zeroColumn withinLimit zeroFrom count columnCount
     flat entry atLimit protocolSend.send protocolOffer.offer protocolDeliver.deliver deliverable trimFor fullest clear only merge framesOf encode sealed front
     headerBytes headerOf header ownLength entriesBytes entryBytes entriesOf listed placed entriesFrom entryAt matrixOf le16 le32 u16At u32At bytes.put trailer
-    trailers.counted checksum total decode wrongQueue sameBytes heldRefused someRefused someAlike arrivalRefusal frameRefusal wrongTrailer hasTrailer countBack
+    trailers.counted checksum decode wrongQueue sameBytes heldRefused someRefused someAlike arrivalRefusal frameRefusal wrongTrailer hasTrailer countBack
     sumBack wrongKind wrongAddress wrongContent wrongBody wrongEntries eachOk entryOk precedes rising risingAfter zeros padded slots frameIn heldFrames without ours lacksRight group
 tie-extra = refl
 
@@ -246,7 +246,7 @@ tie-sums : map (λ (f : Answer → ℕ). sumOver f (after tie .history)) (extras
 unfolding tie step setUp inRange cutFor sendCall offerCall deliverCall brokenRecord brokenRules zeroDiagonal zeroColumn withinLimit zeroFrom count columnCount
     flat entry atLimit protocolSend.send protocolOffer.offer protocolDeliver.deliver deliverable trimFor fullest clear only merge framesOf encode sealed front
     headerBytes headerOf header ownLength entriesBytes entryBytes entriesOf listed placed entriesFrom entryAt matrixOf le16 le32 u16At u32At bytes.put trailer
-    trailers.counted checksum total decode wrongQueue sameBytes heldRefused someRefused someAlike arrivalRefusal frameRefusal wrongTrailer hasTrailer countBack
+    trailers.counted checksum decode wrongQueue sameBytes heldRefused someRefused someAlike arrivalRefusal frameRefusal wrongTrailer hasTrailer countBack
     sumBack wrongKind wrongAddress wrongContent wrongBody wrongEntries eachOk entryOk precedes rising risingAfter zeros padded slots frameIn heldFrames without ours lacksRight group
 tie-sums = refl
 
@@ -274,7 +274,7 @@ opposite-answers : map (λ (e : Event). e .answer) (run 4 (start 4 4) opposite .
 unfolding opposite step setUp inRange cutFor sendCall offerCall deliverCall brokenRecord brokenRules zeroDiagonal zeroColumn withinLimit zeroFrom count
     columnCount flat entry atLimit protocolSend.send protocolOffer.offer protocolDeliver.deliver deliverable trimFor fullest clear only merge framesOf encode
     sealed front headerBytes headerOf header ownLength entriesBytes entryBytes entriesOf listed placed entriesFrom entryAt matrixOf le16 le32 u16At u32At
-    bytes.put trailer trailers.counted checksum total decode wrongQueue sameBytes heldRefused someRefused someAlike arrivalRefusal frameRefusal wrongTrailer
+    bytes.put trailer trailers.counted checksum decode wrongQueue sameBytes heldRefused someRefused someAlike arrivalRefusal frameRefusal wrongTrailer
     hasTrailer countBack sumBack wrongKind wrongAddress wrongContent wrongBody wrongEntries eachOk entryOk precedes rising risingAfter zeros padded slots
     frameIn heldFrames without ours lacksRight group
 opposite-answers = refl
@@ -307,7 +307,7 @@ refusals-answers : answers refusals
 unfolding refusals step setUp inRange cutFor sendCall offerCall deliverCall brokenRecord brokenRules zeroDiagonal zeroColumn withinLimit zeroFrom count
     columnCount flat entry atLimit protocolSend.send protocolOffer.offer protocolDeliver.deliver deliverable trimFor fullest clear only merge framesOf encode
     sealed front headerBytes headerOf header ownLength entriesBytes entryBytes entriesOf listed placed entriesFrom entryAt matrixOf le16 le32 u16At u32At
-    bytes.put trailer trailers.counted checksum total decode wrongQueue sameBytes heldRefused someRefused someAlike arrivalRefusal frameRefusal wrongTrailer
+    bytes.put trailer trailers.counted checksum decode wrongQueue sameBytes heldRefused someRefused someAlike arrivalRefusal frameRefusal wrongTrailer
     hasTrailer countBack sumBack wrongKind wrongAddress wrongContent wrongBody wrongEntries eachOk entryOk precedes rising risingAfter zeros padded slots
     frameIn heldFrames without ours lacksRight group
 refusals-answers = refl

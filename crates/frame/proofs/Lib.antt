@@ -12,3 +12,4 @@ pub mod Carried
 pub mod RoundTrip
 pub mod Framing
 pub mod Frames
+pub mod Exchange

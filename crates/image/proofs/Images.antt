@@ -1,19 +1,21 @@
 -- The laws of the node image: a sound record is read back from its image, and a sound image is the image of the record that it reads as. Of the sum in
 -- the trailer they use nothing but `wire`'s laws. Assumes nothing.
 use Prim.Native.Nat.{_%_, _*_, _+_, _-_, _/_, _<_, _≤_, suc, zero, ℕ}
-use mathlib.Core.Bool.{false, not, _||_}
+use mathlib.Core.Bool.{false, not, true, _||_}
 use mathlib.Core.List.{List, [], _++_, _∷_, append-assoc}
 use mathlib.Core.Path.{_∙_, _≡_, ap, ap₂, refl, sym}
 use native.Mathlib.Decide.{decLt}
 use native.Mathlib.Nat.{add-zero, mul-le-mul}
 use native.Mathlib.Omega.{arith}
-use lib.Dec.{T, eqb, eqb→eq}
+use lib.Dec.{eqb}
 use lib.ListN.{List·getD-eq-default, drop, getD, length, length-append, take}
 use lib.Seq.{getD-append-add, getD-at, take-at}
 use Rattle.wire.proofs.Bytes.{bytes-append, four-back, four-bytes, length-le32, rest, small-bytes}
-use Rattle.wire.proofs.Tests.{eq→eqb, is-false, no-three, not-not, not-or, of-false, T-not-not}
+use Rattle.wire.proofs.Exchange.{exchangeBreaksTrailer}
+use Rattle.wire.proofs.Tests.{either-second, eq→eqb, is-false, is-true, not-or, of-false, T-not-not}
 use Rattle.wire.proofs.Trailer.{bytes-sealed, has-sealed, length-sealed, sealed-has}
 use Rattle.wire.specs.Bytes.{AllBytes, le32, u32At}
+use Rattle.wire.specs.Exchange.{Unequal, exchanged}
 use Rattle.wire.specs.Trailer.{hasTrailer, sealed}
 use Rattle.matrix.proofs.Array.{entry-place}
 use Rattle.matrix.specs.Array.{entry, vector}
@@ -21,7 +23,7 @@ use Rattle.rules.proofs.Facts.{Unbroken, unbroken}
 use Rattle.node.specs.Record.{brokenRecord}
 use Rattle.node.specs.declared.Node.{Node as Record}
 use Rattle.image.proofs.Numbers.{length-fields}
-use Rattle.image.proofs.Read.{good-record, record-cells, record-senders}
+use Rattle.image.proofs.Read.{Good, bad-unsealed, good-image, record-cells, record-senders}
 use Rattle.image.specs.Image.{ImageLaws, SoundImage, SoundRecord, badImage, fields, image, imageSize, numbersAt, recordFields, recordIn}
 
 -- ---- Fields
@@ -210,24 +212,24 @@ module _ (r : Record) (h : SoundRecord r) where
 
 -- what a sound image keeps
 module _ (s : List ℕ) (h : SoundImage s) where
-  kept : T (not (not (eqb (length s) imageSize))) × T (not (not (hasTrailer s))) × T (not (brokenRecord (recordIn s)))
-  unfolding badImage
-  kept =
-      no-three (not (eqb (length s) imageSize)) (not (hasTrailer s)) (brokenRecord (recordIn s))
-      (of-false (not (eqb (length s) imageSize) || not (hasTrailer s) || brokenRecord (recordIn s)) (h .good))
-
-  size : length s ≡ imageSize
-  size = eqb→eq (length s) imageSize (not-not (eqb (length s) imageSize) (kept .0))
+  kept : Good s
+  kept = good-image s (h .good)
 
   read : SoundRecord (recordIn s)
-  read = record { cells = record-cells s; senders = record-senders s; rules = good-record s (h .good) }
+  read = record { cells = record-cells s; senders = record-senders s; rules = kept .rules }
 
   spelled : image (recordIn s) ≡ s
   unfolding image
   spelled =
-      let front : length s - 4 ≡ 628 = omega (arith, size) in
-      ap sealed (sym (fields-back s (h .bytes) (omega (arith, size))) ∙ ap (λ (k : ℕ). take k s) (sym front))
-      ∙ sym (has-sealed s (h .bytes) (not-not (hasTrailer s) (kept .1)))
+      let front : length s - 4 ≡ 628 = omega (arith, kept .size) in
+      ap sealed (sym (fields-back s (h .bytes) (omega (arith, kept .size))) ∙ ap (λ (k : ℕ). take k s) (sym front))
+      ∙ sym (has-sealed s (h .bytes) (kept .trailer))
+
+  found : (k : ℕ) → Unequal s k 2 → badImage (exchanged s k) ≡ true
+  found k u =
+      let x = exchanged s k in
+      let wrong = exchangeBreaksTrailer s k (h .bytes) u (is-true (hasTrailer s) (kept .trailer)) in
+      bad-unsealed x (either-second (not (eqb (length x) imageSize)) (not (hasTrailer x)) (ap not wrong))
 
 pub imageLaws : ImageLaws
 imageLaws =
@@ -237,4 +239,5 @@ imageLaws =
       read = read;
       spelled = spelled;
       one = λ s t a b e. sym (spelled s a) ∙ ap image e ∙ spelled t b;
+      exchanged = found;
     }

@@ -3,7 +3,7 @@ use Prim.Native.Nat.{ℕ}
 use mathlib.Core.Bool.{Bool, _||_, false, not, true}
 use mathlib.Core.List.{List}
 use mathlib.Core.Path.{_≡_}
-use lib.Dec.{eqb, eqb→eq}
+use lib.Dec.{T, eqb, eqb→eq}
 use lib.ListN.{getD, length}
 use Rattle.wire.proofs.Tests.{is-false, no-three, not-not, of-false, or-not}
 use Rattle.wire.specs.Trailer.{hasTrailer}
@@ -28,12 +28,22 @@ pub bad-sealed : (i : List ℕ) → unsealed i ≡ false → badImage i ≡ brok
 unfolding badImage
 bad-sealed i e = rw e
 
--- an image that does not meet 20 has a record that does not meet 2
-pub good-record : (i : List ℕ) → badImage i ≡ false → brokenRecord (recordIn i) ≡ false
+-- what an image keeps that does not meet 20
+pub record Good (i : List ℕ) : Type 0 where
+  pub size : length i ≡ imageSize
+  pub trailer : T (hasTrailer i)
+  pub rules : brokenRecord (recordIn i) ≡ false
+
+pub good-image : (i : List ℕ) → badImage i ≡ false → Good i
 unfolding badImage
-good-record i e =
+good-image i e =
     let b = brokenRecord (recordIn i) in
-    is-false b (no-three (not (eqb (length i) imageSize)) (not (hasTrailer i)) b (of-false (badImage i) e) .2)
+    let w = no-three (not (eqb (length i) imageSize)) (not (hasTrailer i)) b (of-false (badImage i) e) in
+    record {
+      size = eqb→eq (length i) imageSize (not-not (eqb (length i) imageSize) (w .0));
+      trailer = not-not (hasTrailer i) (w .1);
+      rules = is-false b (w .2);
+    }
 
 -- the record of the numbers that are read
 pub record-read : (i m v : List ℕ) → m ≡ recordIn i .m → v ≡ recordIn i .deliv

@@ -1,12 +1,13 @@
 -- The image of a record: its fields in document 02 (vi)'s order, and behind them a trailer of the frame's kind, which is `wire`'s.
 use Prim.Native.Nat.{ℕ, zero, suc, _+_}
-use mathlib.Core.Bool.{Bool, false, not, _||_}
+use mathlib.Core.Bool.{Bool, false, true, not, _||_}
 use mathlib.Core.List.{List, [], _∷_, _++_}
 use mathlib.Core.Path.{_≡_}
 use lib.Dec.{eqb}
 use lib.ListN.{getD, length}
 use Rattle.wire.specs.Bytes.{AllBytes, le32, u32At}
 use Rattle.wire.specs.Trailer.{sealed, hasTrailer}
+use Rattle.wire.specs.Exchange.{Unequal, exchanged}
 use Rattle.node.specs.declared.Node.{Node as Record}
 use Rattle.node.specs.Record.{brokenRecord}
 
@@ -68,9 +69,11 @@ pub record SoundImage (s : List ℕ) : Type 0 where
 -- written: the image of a sound record is sound; back: and reads as that record
 -- read: the record of a sound image is sound; spelled: a sound image read and written again is the same bytes
 -- one: two sound images of one record are the same bytes
+-- exchanged: a sound image with two unequal neighbours exchanged in front of its sum meets 20 (document 02, (ix))
 pub record ImageLaws : Type 0 where
   pub written : (r : Record) → SoundRecord r → SoundImage (image r)
   pub back : (r : Record) → SoundRecord r → recordIn (image r) ≡ r
   pub read : (s : List ℕ) → SoundImage s → SoundRecord (recordIn s)
   pub spelled : (s : List ℕ) → SoundImage s → image (recordIn s) ≡ s
   pub one : (s t : List ℕ) → SoundImage s → SoundImage t → recordIn s ≡ recordIn t → s ≡ t
+  pub exchanged : (s : List ℕ) → SoundImage s → (k : ℕ) → Unequal s k 2 → badImage (exchanged s k) ≡ true

@@ -67,17 +67,17 @@ fn write_numbers(s: &mut [u8], at: usize, a: &[u32])
     }
 }
 
-/// What set-up leaves: the image of a fresh record. It is made in a local array, which is known to be zero when its trailer is made.
+/// What set-up leaves: the image of a fresh record.
 pub fn store_fresh(s: &mut [u8], me: u8, n: u8, cap: u8)
     requires { ⌜ length (now s) ≡ imageSize ⌝ }
     ensures { λ _. ⌜ now (s .exit) ≡ image (freshRecord me n cap) ⌝ }
 {
-    let mut fresh = [0u8; SIZE];
-    fresh[0] = me;
-    fresh[1] = n;
-    fresh[2] = cap;
-    wire::write_trailer(&mut fresh, 0, FIELDS);
-    wire::copy(s, 0, &fresh);
+    let zeros = [0u8; SIZE];
+    wire::copy(s, 0, &zeros);
+    s[0] = me;
+    s[1] = n;
+    s[2] = cap;
+    wire::write_trailer(s, 0, FIELDS);
 }
 
 /// What a send leaves: another matrix.

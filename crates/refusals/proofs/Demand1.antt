@@ -39,6 +39,7 @@ use Rattle.trail.specs.declared.walk.StepAnswer.{StepAnswer}
 use Rattle.trail.specs.declared.walk.StepAnswer.the-variants as stepAnswer
 use Rattle.trail.specs.declared.walk.WalkAnswer.the-variants as walkAnswer
 use Rattle.trail.specs.declared.write.WriteAnswer.the-variants as writeAnswer
+use Rattle.wire.proofs.Tests.{not-both}
 use Rattle.wire.specs.Bytes.{put}
 use Rattle.text.proofs.Print.{run-short}
 use Rattle.text.specs.Output.{afterRun}
@@ -52,7 +53,7 @@ use Rattle.request.specs.declared.Request.the-variants as asks
 use Rattle.sweep.proofs.Outputs.{answered-refused, answered-table, not-refusal}
 use Rattle.sweep.specs.Load as load
 use Rattle.sweep.specs.Run.{outputSize, runCall}
-use Rattle.refusals.proofs.First.{by-first, first-lowest, not-both, turned}
+use Rattle.refusals.proofs.First.{by-first, first-lowest, turned}
 use Rattle.refusals.proofs.Host.{host-deliver-says, host-offer-says, host-send-says, host-set-up-says}
 use Rattle.refusals.specs.CallChecks.{deliverChecks, loadChecks, offerChecks, sendChecks, setUpChecks, stepChecks, walkChecks, writeChecks}
 use Rattle.refusals.specs.Checks.{Answers, First, firstMet}

@@ -8,17 +8,13 @@ use native.Mathlib.Omega.{arith}
 use native.Mathlib.Decide.{ℕ-discrete}
 use borrow.Author.Tests.{ne-eqb}
 use lib.Dec.{eqb}
+use Rattle.wire.proofs.Tests.{not-both}
 use Rattle.refusals.specs.Checks.{Answers, Check, First, Met, NoneMet, Numbered, Rising, firstMet}
 
 -- no number of the list is 0
 abbrev pub Positive : List Check → Type 0
 Positive [] = Unit {0}
 Positive (c ∷ l) = (0 < c .number) × Positive l
-
--- a test is not both
-pub not-both : (b : Bool) → b ≡ true → b ≡ false → ⊥
-not-both true p q = let z : _≡_ {A = ℕ} 0 1 = cc in absurd (omega arith)
-not-both false p q = let z : _≡_ {A = ℕ} 0 1 = cc in absurd (omega arith)
 
 -- a test and its opposite
 pub turned : {A : Type 0} (b : Bool) (x y : A) → cond b x y ≡ cond (not b) y x

@@ -25,7 +25,7 @@ use Rattle.node.specs.declared.SetUpAnswer.the-variants as setUpAnswer
 use Rattle.host.specs.Exports.{DeliverLeft, OfferLeft, SendLeft, SetUpLeft, answerSize, deliverTold, offerTold}
 use Rattle.host.specs.Exports.{exportedDeliver, exportedOffer, exportedSend, exportedSetUp, sendTold, setUpLeft, setUpTold}
 use Rattle.host.proofs.Refused.{deliver-leaves, offer-leaves, send-leaves, set-up-leaves}
-use Rattle.image.proofs.Read.{good-record}
+use Rattle.image.proofs.Read.{good-image}
 use Rattle.image.specs.Image.{badImage, image, imageSize, recordIn}
 use Rattle.refusals.proofs.First.{by-number, turned}
 use Rattle.refusals.specs.CallChecks.{deliverRest, hostDeliverChecks, hostOfferChecks, hostSendChecks, hostSetUpChecks, offerRest, sendRest}
@@ -93,7 +93,7 @@ module _ (i : List ℕ) (to class : ℕ) (body out answer : List ℕ) where
         numbered =
             by-number (hostSendChecks i to class body out answer) (exportedSend i to class body out answer .status) (omega arith)
             (status-of (λ (l : SendLeft). l .status) (badImage i) short (brokenRecord r) (ltb (length out) outSize) (firstMet (sendRest r to class body))
-            (good-record i) refl refl (send-number c (c .result .answer) ∙ says .answers .numbered .first));
+            (λ g. good-image i g .rules) refl refl (send-number c (c .result .answer) ∙ says .answers .numbered .first));
         same = send-leaves i to class body out answer;
       }
 
@@ -114,7 +114,7 @@ module _ (i s q answer : List ℕ) where
         numbered =
             by-number (hostOfferChecks i s q answer) (exportedOffer i s q answer .status) (omega arith)
             (status-of (λ (l : OfferLeft). l .status) (badImage i) short (brokenRecord r) (not (eqb (length q) queueSize)) (firstMet (offerRest r s q))
-            (good-record i) refl refl (offer-number c (c .result .answer) ∙ says .answers .numbered .first));
+            (λ g. good-image i g .rules) refl refl (offer-number c (c .result .answer) ∙ says .answers .numbered .first));
         same = offer-leaves i s q answer;
       }
 
@@ -138,6 +138,6 @@ module _ (i q out body answer : List ℕ) where
         numbered =
             by-number (hostDeliverChecks i q out body answer) (exportedDeliver i q out body answer .status) (omega arith)
             (status-of (λ (l : DeliverLeft). l .status) (badImage i) short (brokenRecord r) t₃ (firstMet (deliverRest r q))
-            (good-record i) refl refl (deliver-number c (c .result .answer) ∙ says .answers .numbered .first));
+            (λ g. good-image i g .rules) refl refl (deliver-number c (c .result .answer) ∙ says .answers .numbered .first));
         same = deliver-leaves i q out body answer;
       }

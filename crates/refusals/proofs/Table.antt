@@ -29,7 +29,7 @@ use Rattle.refusals.specs.Table.{Diamonds, deliversAgain, deliversFirst,
 use Rattle.refusals.specs.Table.{numbered, out, rows, sent₀, sixteenth, text, thenDelivers, thenOffers, thirteen, untrimmed, waiting}
 use Rattle.rules.specs.Rules.{brokenRules, inRange, withinLimit, zeroColumn, zeroDiagonal, zeroFrom}
 use Rattle.wire.specs.Bytes.{le16, le32, u16At, u32At}
-use Rattle.wire.specs.Trailer.{checksum, countBack, hasTrailer, sealed, sumBack, total, trailer}
+use Rattle.wire.specs.Trailer.{checksum, countBack, hasTrailer, sealed, sumBack, trailer}
 use Rattle.protocol.specs.Send as protocolSend
 use Rattle.protocol.specs.Offer as protocolOffer
 use Rattle.protocol.specs.Deliver as protocolDeliver
@@ -45,10 +45,10 @@ abbrev sent : Record
 sent = record { me = 0; n = 3; cap = 3; m = rows 0 1 1 0 0 0 0 0 0; deliv = replicate 12 0; held = 0 }
 
 abbrev early : List ℕ
-early = 1 ∷ 1 ∷ 0 ∷ 1 ∷ 0 ∷ 3 ∷ 3 ∷ 0 ∷ 1 ∷ 2 ∷ 1 ∷ 0 ∷ 0 ∷ 0 ∷ 14 ∷ 0 ∷ 27 ∷ 0 ∷ []
+early = 1 ∷ 1 ∷ 0 ∷ 1 ∷ 0 ∷ 3 ∷ 3 ∷ 0 ∷ 1 ∷ 2 ∷ 1 ∷ 0 ∷ 0 ∷ 0 ∷ 14 ∷ 0 ∷ 40 ∷ 1 ∷ []
 
 abbrev still : List ℕ
-still = 1 ∷ 2 ∷ 0 ∷ 1 ∷ 0 ∷ 3 ∷ 3 ∷ 0 ∷ 2 ∷ 1 ∷ 1 ∷ 0 ∷ 0 ∷ 0 ∷ 14 ∷ 0 ∷ 28 ∷ 0 ∷ []
+still = 1 ∷ 2 ∷ 0 ∷ 1 ∷ 0 ∷ 3 ∷ 3 ∷ 0 ∷ 2 ∷ 1 ∷ 1 ∷ 0 ∷ 0 ∷ 0 ∷ 14 ∷ 0 ∷ 41 ∷ 1 ∷ []
 
 -- what the caller of node 0 holds after the first offer and after the second
 abbrev holding : ℕ → List (List ℕ) → AfterOffer
@@ -79,13 +79,13 @@ twice =
       answer = gets 2 1 1 0 24 1;
       node = record { me = 0; n = 3; cap = 3; m = rows 0 2 1 0 0 1 0 0 0; deliv = 0 ∷ 1 ∷ 1 ∷ replicate 9 0; held = 0 };
     }) empty
-    (2 ∷ 0 ∷ 1 ∷ 2 ∷ 0 ∷ 3 ∷ 3 ∷ 0 ∷ 0 ∷ 1 ∷ 1 ∷ 0 ∷ 0 ∷ 0 ∷ 2 ∷ 1 ∷ 1 ∷ 0 ∷ 0 ∷ 0 ∷ 20 ∷ 0 ∷ 37 ∷ 0 ∷ replicate 2024 0) text
+    (2 ∷ 0 ∷ 1 ∷ 2 ∷ 0 ∷ 3 ∷ 3 ∷ 0 ∷ 0 ∷ 1 ∷ 1 ∷ 0 ∷ 0 ∷ 0 ∷ 2 ∷ 1 ∷ 1 ∷ 0 ∷ 0 ∷ 0 ∷ 20 ∷ 0 ∷ 44 ∷ 2 ∷ replicate 2024 0) text
 
 is-sent : sent₀ ≡ sent
 unfolding ours lacksRight group setUp inRange sendCall offerCall deliverCall brokenRecord brokenRules zeroDiagonal zeroColumn withinLimit zeroFrom count columnCount flat entry single
     atLimit protocolSend.send protocolOffer.offer protocolDeliver.deliver deliverable trimFor fullest clear only merge framesOf encode sealed front headerBytes
     headerOf header ownLength entriesBytes entryBytes entriesOf listed placed entriesFrom entryAt matrixOf le16 le32 u16At u32At bytes.put trailer
-    trailers.counted checksum total decode wrongQueue sameBytes heldRefused someRefused someAlike arrivalRefusal frameRefusal wrongTrailer hasTrailer countBack
+    trailers.counted checksum decode wrongQueue sameBytes heldRefused someRefused someAlike arrivalRefusal frameRefusal wrongTrailer hasTrailer countBack
     sumBack wrongKind wrongAddress wrongContent wrongBody wrongEntries eachOk entryOk precedes rising risingAfter zeros padded slots frameIn heldFrames without
     sent₀
 is-sent = refl
@@ -94,7 +94,7 @@ is-early : from₁ ≡ early
 unfolding ours lacksRight group setUp inRange sendCall offerCall deliverCall brokenRecord brokenRules zeroDiagonal zeroColumn withinLimit zeroFrom count columnCount flat entry single
     atLimit protocolSend.send protocolOffer.offer protocolDeliver.deliver deliverable trimFor fullest clear only merge framesOf encode sealed front headerBytes
     headerOf header ownLength entriesBytes entryBytes entriesOf listed placed entriesFrom entryAt matrixOf le16 le32 u16At u32At bytes.put trailer
-    trailers.counted checksum total decode wrongQueue sameBytes heldRefused someRefused someAlike arrivalRefusal frameRefusal wrongTrailer hasTrailer countBack
+    trailers.counted checksum decode wrongQueue sameBytes heldRefused someRefused someAlike arrivalRefusal frameRefusal wrongTrailer hasTrailer countBack
     sumBack wrongKind wrongAddress wrongContent wrongBody wrongEntries eachOk entryOk precedes rising risingAfter zeros padded slots frameIn heldFrames without
     from₁
 is-early = refl
@@ -103,7 +103,7 @@ is-still : from₂ ≡ still
 unfolding ours lacksRight group setUp inRange sendCall offerCall deliverCall brokenRecord brokenRules zeroDiagonal zeroColumn withinLimit zeroFrom count columnCount flat entry single
     atLimit protocolSend.send protocolOffer.offer protocolDeliver.deliver deliverable trimFor fullest clear only merge framesOf encode sealed front headerBytes
     headerOf header ownLength entriesBytes entryBytes entriesOf listed placed entriesFrom entryAt matrixOf le16 le32 u16At u32At bytes.put trailer
-    trailers.counted checksum total decode wrongQueue sameBytes heldRefused someRefused someAlike arrivalRefusal frameRefusal wrongTrailer hasTrailer countBack
+    trailers.counted checksum decode wrongQueue sameBytes heldRefused someRefused someAlike arrivalRefusal frameRefusal wrongTrailer hasTrailer countBack
     sumBack wrongKind wrongAddress wrongContent wrongBody wrongEntries eachOk entryOk precedes rising risingAfter zeros padded slots frameIn heldFrames without
     from₂
 is-still = refl
@@ -112,7 +112,7 @@ offer-early : offerCall sent early empty ≡ one
 unfolding ours lacksRight group setUp inRange sendCall offerCall deliverCall brokenRecord brokenRules zeroDiagonal zeroColumn withinLimit zeroFrom count columnCount flat entry single
     atLimit protocolSend.send protocolOffer.offer protocolDeliver.deliver deliverable trimFor fullest clear only merge framesOf encode sealed front headerBytes
     headerOf header ownLength entriesBytes entryBytes entriesOf listed placed entriesFrom entryAt matrixOf le16 le32 u16At u32At bytes.put trailer
-    trailers.counted checksum total decode wrongQueue sameBytes heldRefused someRefused someAlike arrivalRefusal frameRefusal wrongTrailer hasTrailer countBack
+    trailers.counted checksum decode wrongQueue sameBytes heldRefused someRefused someAlike arrivalRefusal frameRefusal wrongTrailer hasTrailer countBack
     sumBack wrongKind wrongAddress wrongContent wrongBody wrongEntries eachOk entryOk precedes rising risingAfter zeros padded slots frameIn heldFrames without
 offer-early = refl
 
@@ -120,7 +120,7 @@ then-offer-still : thenOffers one still ≡ two
 unfolding ours lacksRight group setUp inRange sendCall offerCall deliverCall brokenRecord brokenRules zeroDiagonal zeroColumn withinLimit zeroFrom count columnCount flat entry single
     atLimit protocolSend.send protocolOffer.offer protocolDeliver.deliver deliverable trimFor fullest clear only merge framesOf encode sealed front headerBytes
     headerOf header ownLength entriesBytes entryBytes entriesOf listed placed entriesFrom entryAt matrixOf le16 le32 u16At u32At bytes.put trailer
-    trailers.counted checksum total decode wrongQueue sameBytes heldRefused someRefused someAlike arrivalRefusal frameRefusal wrongTrailer hasTrailer countBack
+    trailers.counted checksum decode wrongQueue sameBytes heldRefused someRefused someAlike arrivalRefusal frameRefusal wrongTrailer hasTrailer countBack
     sumBack wrongKind wrongAddress wrongContent wrongBody wrongEntries eachOk entryOk precedes rising risingAfter zeros padded slots frameIn heldFrames without
 then-offer-still = refl
 
@@ -137,7 +137,7 @@ then-once : thenDelivers two ≡ once
 unfolding ours lacksRight group setUp inRange sendCall offerCall deliverCall brokenRecord brokenRules zeroDiagonal zeroColumn withinLimit zeroFrom count columnCount flat entry single
     atLimit protocolSend.send protocolOffer.offer protocolDeliver.deliver deliverable trimFor fullest clear only merge framesOf encode sealed front headerBytes
     headerOf header ownLength entriesBytes entryBytes entriesOf listed placed entriesFrom entryAt matrixOf le16 le32 u16At u32At bytes.put trailer
-    trailers.counted checksum total decode wrongQueue sameBytes heldRefused someRefused someAlike arrivalRefusal frameRefusal wrongTrailer hasTrailer countBack
+    trailers.counted checksum decode wrongQueue sameBytes heldRefused someRefused someAlike arrivalRefusal frameRefusal wrongTrailer hasTrailer countBack
     sumBack wrongKind wrongAddress wrongContent wrongBody wrongEntries eachOk entryOk precedes rising risingAfter zeros padded slots frameIn heldFrames without
 then-once = refl
 
@@ -149,7 +149,7 @@ then-twice : deliversAgain once ≡ twice
 unfolding ours lacksRight group setUp inRange sendCall offerCall deliverCall brokenRecord brokenRules zeroDiagonal zeroColumn withinLimit zeroFrom count columnCount flat entry single
     atLimit protocolSend.send protocolOffer.offer protocolDeliver.deliver deliverable trimFor fullest clear only merge framesOf encode sealed front headerBytes
     headerOf header ownLength entriesBytes entryBytes entriesOf listed placed entriesFrom entryAt matrixOf le16 le32 u16At u32At bytes.put trailer
-    trailers.counted checksum total decode wrongQueue sameBytes heldRefused someRefused someAlike arrivalRefusal frameRefusal wrongTrailer hasTrailer countBack
+    trailers.counted checksum decode wrongQueue sameBytes heldRefused someRefused someAlike arrivalRefusal frameRefusal wrongTrailer hasTrailer countBack
     sumBack wrongKind wrongAddress wrongContent wrongBody wrongEntries eachOk entryOk precedes rising risingAfter zeros padded slots frameIn heldFrames without
 then-twice = refl
 
@@ -169,7 +169,7 @@ merged-four : count (merged once still) ≡ 4
 unfolding ours lacksRight group setUp inRange sendCall offerCall deliverCall brokenRecord brokenRules zeroDiagonal zeroColumn withinLimit zeroFrom count columnCount flat entry single
     atLimit protocolSend.send protocolOffer.offer protocolDeliver.deliver deliverable trimFor fullest clear only merge framesOf encode sealed front headerBytes
     headerOf header ownLength entriesBytes entryBytes entriesOf listed placed entriesFrom entryAt matrixOf le16 le32 u16At u32At bytes.put trailer
-    trailers.counted checksum total decode wrongQueue sameBytes heldRefused someRefused someAlike arrivalRefusal frameRefusal wrongTrailer hasTrailer countBack
+    trailers.counted checksum decode wrongQueue sameBytes heldRefused someRefused someAlike arrivalRefusal frameRefusal wrongTrailer hasTrailer countBack
     sumBack wrongKind wrongAddress wrongContent wrongBody wrongEntries eachOk entryOk precedes rising risingAfter zeros padded slots frameIn heldFrames without
 merged-four = refl
 
@@ -177,7 +177,7 @@ merged-tie : (columnCount (merged once still) 1 ≡ 2) × (columnCount (merged o
 unfolding ours lacksRight group setUp inRange sendCall offerCall deliverCall brokenRecord brokenRules zeroDiagonal zeroColumn withinLimit zeroFrom count columnCount flat entry single
     atLimit protocolSend.send protocolOffer.offer protocolDeliver.deliver deliverable trimFor fullest clear only merge framesOf encode sealed front headerBytes
     headerOf header ownLength entriesBytes entryBytes entriesOf listed placed entriesFrom entryAt matrixOf le16 le32 u16At u32At bytes.put trailer
-    trailers.counted checksum total decode wrongQueue sameBytes heldRefused someRefused someAlike arrivalRefusal frameRefusal wrongTrailer hasTrailer countBack
+    trailers.counted checksum decode wrongQueue sameBytes heldRefused someRefused someAlike arrivalRefusal frameRefusal wrongTrailer hasTrailer countBack
     sumBack wrongKind wrongAddress wrongContent wrongBody wrongEntries eachOk entryOk precedes rising risingAfter zeros padded slots frameIn heldFrames without
 merged-tie = (refl, refl)
 
@@ -189,7 +189,7 @@ held =
     afterOffer (record {
       answer = offerAnswer.Held 1 true;
       node = record { me = 1; n = 3; cap = 3; m = replicate 144 0; deliv = replicate 12 0; held = 1 };
-    }) (laid (thirteen 97 ∷ []))
+    }) (laid (thirteen 81 ∷ []))
 
 abbrev got : AfterDeliver
 got =
@@ -202,16 +202,16 @@ is-held : holdsOne ≡ held
 unfolding ours lacksRight group setUp inRange sendCall offerCall deliverCall brokenRecord brokenRules zeroDiagonal zeroColumn withinLimit zeroFrom count columnCount flat entry single
     atLimit protocolSend.send protocolOffer.offer protocolDeliver.deliver deliverable trimFor fullest clear only merge framesOf encode sealed front headerBytes
     headerOf header ownLength entriesBytes entryBytes entriesOf listed placed entriesFrom entryAt matrixOf le16 le32 u16At u32At bytes.put trailer
-    trailers.counted checksum total decode wrongQueue sameBytes heldRefused someRefused someAlike arrivalRefusal frameRefusal wrongTrailer hasTrailer countBack
+    trailers.counted checksum decode wrongQueue sameBytes heldRefused someRefused someAlike arrivalRefusal frameRefusal wrongTrailer hasTrailer countBack
     sumBack wrongKind wrongAddress wrongContent wrongBody wrongEntries eachOk entryOk precedes rising risingAfter zeros padded slots frameIn heldFrames without
     holdsOne
 is-held = refl
 
-held-again : thenOffers held (thirteen 97) .result .answer ≡ offerAnswer.Refused 15
+held-again : thenOffers held (thirteen 81) .result .answer ≡ offerAnswer.Refused 15
 unfolding ours lacksRight group setUp inRange sendCall offerCall deliverCall brokenRecord brokenRules zeroDiagonal zeroColumn withinLimit zeroFrom count columnCount flat entry single
     atLimit protocolSend.send protocolOffer.offer protocolDeliver.deliver deliverable trimFor fullest clear only merge framesOf encode sealed front headerBytes
     headerOf header ownLength entriesBytes entryBytes entriesOf listed placed entriesFrom entryAt matrixOf le16 le32 u16At u32At bytes.put trailer
-    trailers.counted checksum total decode wrongQueue sameBytes heldRefused someRefused someAlike arrivalRefusal frameRefusal wrongTrailer hasTrailer countBack
+    trailers.counted checksum decode wrongQueue sameBytes heldRefused someRefused someAlike arrivalRefusal frameRefusal wrongTrailer hasTrailer countBack
     sumBack wrongKind wrongAddress wrongContent wrongBody wrongEntries eachOk entryOk precedes rising risingAfter zeros padded slots frameIn heldFrames without
 held-again = refl
 
@@ -219,7 +219,7 @@ then-got : thenDelivers held ≡ got
 unfolding ours lacksRight group setUp inRange sendCall offerCall deliverCall brokenRecord brokenRules zeroDiagonal zeroColumn withinLimit zeroFrom count columnCount flat entry single
     atLimit protocolSend.send protocolOffer.offer protocolDeliver.deliver deliverable trimFor fullest clear only merge framesOf encode sealed front headerBytes
     headerOf header ownLength entriesBytes entryBytes entriesOf listed placed entriesFrom entryAt matrixOf le16 le32 u16At u32At bytes.put trailer
-    trailers.counted checksum total decode wrongQueue sameBytes heldRefused someRefused someAlike arrivalRefusal frameRefusal wrongTrailer hasTrailer countBack
+    trailers.counted checksum decode wrongQueue sameBytes heldRefused someRefused someAlike arrivalRefusal frameRefusal wrongTrailer hasTrailer countBack
     sumBack wrongKind wrongAddress wrongContent wrongBody wrongEntries eachOk entryOk precedes rising risingAfter zeros padded slots frameIn heldFrames without
 then-got = refl
 
@@ -227,11 +227,11 @@ is-got : deliversOne ≡ got
 unfolding deliversOne
 is-got = ap thenDelivers is-held ∙ then-got
 
-got-again : offerCall (got .result .node) (thirteen 97) (got .queue) .result .answer ≡ offerAnswer.Refused 14
+got-again : offerCall (got .result .node) (thirteen 81) (got .queue) .result .answer ≡ offerAnswer.Refused 14
 unfolding ours lacksRight group setUp inRange sendCall offerCall deliverCall brokenRecord brokenRules zeroDiagonal zeroColumn withinLimit zeroFrom count columnCount flat entry single
     atLimit protocolSend.send protocolOffer.offer protocolDeliver.deliver deliverable trimFor fullest clear only merge framesOf encode sealed front headerBytes
     headerOf header ownLength entriesBytes entryBytes entriesOf listed placed entriesFrom entryAt matrixOf le16 le32 u16At u32At bytes.put trailer
-    trailers.counted checksum total decode wrongQueue sameBytes heldRefused someRefused someAlike arrivalRefusal frameRefusal wrongTrailer hasTrailer countBack
+    trailers.counted checksum decode wrongQueue sameBytes heldRefused someRefused someAlike arrivalRefusal frameRefusal wrongTrailer hasTrailer countBack
     sumBack wrongKind wrongAddress wrongContent wrongBody wrongEntries eachOk entryOk precedes rising risingAfter zeros padded slots frameIn heldFrames without
 got-again = refl
 
@@ -240,7 +240,7 @@ no-place : sixteenth (numbered 16) .result .answer ≡ offerAnswer.Refused 16
 unfolding ours lacksRight group setUp inRange sendCall offerCall deliverCall brokenRecord brokenRules zeroDiagonal zeroColumn withinLimit zeroFrom count columnCount flat entry single
     atLimit protocolSend.send protocolOffer.offer protocolDeliver.deliver deliverable trimFor fullest clear only merge framesOf encode sealed front headerBytes
     headerOf header ownLength entriesBytes entryBytes entriesOf listed placed entriesFrom entryAt matrixOf le16 le32 u16At u32At bytes.put trailer
-    trailers.counted checksum total decode wrongQueue sameBytes heldRefused someRefused someAlike arrivalRefusal frameRefusal wrongTrailer hasTrailer countBack
+    trailers.counted checksum decode wrongQueue sameBytes heldRefused someRefused someAlike arrivalRefusal frameRefusal wrongTrailer hasTrailer countBack
     sumBack wrongKind wrongAddress wrongContent wrongBody wrongEntries eachOk entryOk precedes rising risingAfter zeros padded slots frameIn heldFrames without
     sixteenth
 no-place = refl
@@ -257,7 +257,7 @@ is-full : sixteenth (numbered 0) ≡ full
 unfolding ours lacksRight group setUp inRange sendCall offerCall deliverCall brokenRecord brokenRules zeroDiagonal zeroColumn withinLimit zeroFrom count columnCount flat entry single
     atLimit protocolSend.send protocolOffer.offer protocolDeliver.deliver deliverable trimFor fullest clear only merge framesOf encode sealed front headerBytes
     headerOf header ownLength entriesBytes entryBytes entriesOf listed placed entriesFrom entryAt matrixOf le16 le32 u16At u32At bytes.put trailer
-    trailers.counted checksum total decode wrongQueue sameBytes heldRefused someRefused someAlike arrivalRefusal frameRefusal wrongTrailer hasTrailer countBack
+    trailers.counted checksum decode wrongQueue sameBytes heldRefused someRefused someAlike arrivalRefusal frameRefusal wrongTrailer hasTrailer countBack
     sumBack wrongKind wrongAddress wrongContent wrongBody wrongEntries eachOk entryOk precedes rising risingAfter zeros padded slots frameIn heldFrames without
     sixteenth
 is-full = refl
@@ -267,7 +267,7 @@ pub diamonds : Diamonds
 unfolding ours lacksRight group setUp inRange sendCall offerCall deliverCall brokenRecord brokenRules zeroDiagonal zeroColumn withinLimit zeroFrom count columnCount flat entry single
     atLimit protocolSend.send protocolOffer.offer protocolDeliver.deliver deliverable trimFor fullest clear only merge framesOf encode sealed front headerBytes
     headerOf header ownLength entriesBytes entryBytes entriesOf listed placed entriesFrom entryAt matrixOf le16 le32 u16At u32At bytes.put trailer
-    trailers.counted checksum total decode wrongQueue sameBytes heldRefused someRefused someAlike arrivalRefusal frameRefusal wrongTrailer hasTrailer countBack
+    trailers.counted checksum decode wrongQueue sameBytes heldRefused someRefused someAlike arrivalRefusal frameRefusal wrongTrailer hasTrailer countBack
     sumBack wrongKind wrongAddress wrongContent wrongBody wrongEntries eachOk entryOk precedes rising risingAfter zeros padded slots frameIn heldFrames without
 diamonds =
     record {
@@ -288,9 +288,9 @@ diamonds =
       extra = ap (λ (c : AfterDeliver). c .out) is-twice;
       left = ap (λ (c : AfterDeliver). c .result .node .m) is-twice;
       held = ap (λ (c : AfterOffer). c .result .answer) is-held;
-      again = ap (λ (c : AfterOffer). thenOffers c (thirteen 97) .result .answer) is-held ∙ held-again;
+      again = ap (λ (c : AfterOffer). thenOffers c (thirteen 81) .result .answer) is-held ∙ held-again;
       delivered = ap (λ (c : AfterDeliver). c .result .answer) is-got;
-      afterwards = ap (λ (c : AfterDeliver). offerCall (c .result .node) (thirteen 97) (c .queue) .result .answer) is-got ∙ got-again;
+      afterwards = ap (λ (c : AfterDeliver). offerCall (c .result .node) (thirteen 81) (c .queue) .result .answer) is-got ∙ got-again;
       waits = no-place;
       deliverable = ap (λ (c : AfterOffer). c .result .answer) is-full;
       last = ap (λ (c : AfterOffer). c .queue) is-full;

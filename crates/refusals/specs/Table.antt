@@ -71,9 +71,9 @@ rows a b c d e f g h i = (a ∷ b ∷ c ∷ replicate 9 0) ++ ((d ∷ e ∷ f �
 
 -- ---- n 3, cap 3, fresh 0 sends "O" to 1: a camera's, since its topic 79 is exposure
 
--- its 13 bytes, hex 01 00 01 00 01 03 03 00 4F 09 00 61 00, with the byte x for 61
+-- its 13 bytes, hex 01 00 01 00 01 03 03 00 4F 09 00 51 03, with the byte x for 51: document 01 ends them 61 00, document 02 (ix) 51 03
 abbrev pub thirteen : ℕ → List ℕ
-thirteen x = 1 ∷ 0 ∷ 1 ∷ 0 ∷ 1 ∷ 3 ∷ 3 ∷ 0 ∷ 79 ∷ 9 ∷ 0 ∷ x ∷ 0 ∷ []
+thirteen x = 1 ∷ 0 ∷ 1 ∷ 0 ∷ 1 ∷ 3 ∷ 3 ∷ 0 ∷ 79 ∷ 9 ∷ 0 ∷ x ∷ 3 ∷ []
 
 -- ---- the tie
 
@@ -106,7 +106,7 @@ untrimmed = merge 0 (entry (deliversFirst .result .node .m)) (decode from₂ .en
 
 -- node 1 holds the 13 bytes, and delivers them
 unfoldable pub holdsOne : AfterOffer
-holdsOne = offerCall (fresh 1 3 3) (thirteen 97) empty
+holdsOne = offerCall (fresh 1 3 3) (thirteen 81) empty
 
 unfoldable pub deliversOne : AfterDeliver
 deliversOne = thenDelivers holdsOne
@@ -132,11 +132,11 @@ sixteenth s = offerCall fifteen s (laid (waiting 15))
 
 -- ---- the table
 pub record Diamonds : Type 0 where
-  -- ◆ n 3, cap 3, fresh 0 sends "O" to 1, hex: 01 00 01 00 01 03 03 00 4F 09 00 61 00.
+  -- ◆ n 3, cap 3, fresh 0 sends "O" to 1, hex: 01 00 01 00 01 03 03 00 4F 09 00 51 03.
   pub sendsO : sends (fresh 0 3 3) 1 camera (79 ∷ []) .result .answer ≡ sendAnswer.Sent 13 0
-  pub bytesO : sends (fresh 0 3 3) 1 camera (79 ∷ []) .out ≡ thirteen 97 ++ replicate 2035 0
-  -- ◆ With 62 for 61: 8.
-  pub wrongSum : offerCall (fresh 1 3 3) (thirteen 98) empty .result .answer ≡ offerAnswer.Refused 8
+  pub bytesO : sends (fresh 0 3 3) 1 camera (79 ∷ []) .out ≡ thirteen 81 ++ replicate 2035 0
+  -- ◆ With 52 for 51: 8.
+  pub wrongSum : offerCall (fresh 1 3 3) (thirteen 82) empty .result .answer ≡ offerAnswer.Refused 8
   -- ◆ n 2: cap 4 is taken;
   pub cap4 : setUp 0 2 4 .answer ≡ setUpAnswer.Ready
   -- ◆ cap 5: 1.
@@ -161,16 +161,16 @@ pub record Diamonds : Type 0 where
       ≡ 2 ∷ 0 ∷ 1 ∷ 2 ∷ 0 ∷ 3 ∷ 3 ∷ 0
       ∷ 0 ∷ 1 ∷ 1 ∷ 0 ∷ 0 ∷ 0
       ∷ 2 ∷ 1 ∷ 1 ∷ 0 ∷ 0 ∷ 0
-      ∷ 20 ∷ 0 ∷ 37 ∷ 0
+      ∷ 20 ∷ 0 ∷ 44 ∷ 2
       ∷ replicate 2024 0
   -- Left: (0,1)=2, (0,2)=1, (1,2)=1.
   pub left : deliversSecond .result .node .m ≡ rows 0 2 1 0 0 1 0 0 0
   -- ◆ A frame offered again while held: 15;
   pub held : holdsOne .result .answer ≡ offerAnswer.Held 1 true
-  pub again : thenOffers holdsOne (thirteen 97) .result .answer ≡ offerAnswer.Refused 15
+  pub again : thenOffers holdsOne (thirteen 81) .result .answer ≡ offerAnswer.Refused 15
   -- ◆ after delivery: 14.
   pub delivered : deliversOne .result .answer ≡ gets 0 1 1 1 0 0
-  pub afterwards : offerCall (deliversOne .result .node) (thirteen 97) (deliversOne .queue) .result .answer ≡ offerAnswer.Refused 14
+  pub afterwards : offerCall (deliversOne .result .node) (thirteen 81) (deliversOne .queue) .result .answer ≡ offerAnswer.Refused 14
   -- ◆ 15 held, a waiting frame: 16;
   pub waits : sixteenth (numbered 16) .result .answer ≡ offerAnswer.Refused 16
   -- ◆ a deliverable one: held.

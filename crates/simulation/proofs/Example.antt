@@ -24,7 +24,7 @@ use Rattle.protocol.specs.Node.{atLimit}
 use Rattle.protocol.specs.Offer.{deliverable}
 use Rattle.protocol.specs.Trim.{trimFor}
 use Rattle.wire.specs.Bytes.{le16, le32, u16At, u32At}
-use Rattle.wire.specs.Trailer.{checksum, countBack, hasTrailer, sealed, sumBack, total, trailer}
+use Rattle.wire.specs.Trailer.{checksum, countBack, hasTrailer, sealed, sumBack, trailer}
 use Rattle.protocol.specs.Send as protocolSend
 use Rattle.protocol.specs.Offer as protocolOffer
 use Rattle.protocol.specs.Deliver as protocolDeliver
@@ -113,7 +113,7 @@ pub examples : (output input ≡ printed) × (output waiting ≡ waited)
 unfolding ours lacksRight group setUp inRange cutFor sendCall offerCall deliverCall brokenRecord brokenRules zeroDiagonal zeroColumn withinLimit zeroFrom count columnCount flat entry
     atLimit protocolSend.send protocolOffer.offer protocolDeliver.deliver deliverable trimFor fullest clear only merge framesOf encode sealed front headerBytes
     headerOf header ownLength entriesBytes entryBytes entriesOf listed placed entriesFrom entryAt matrixOf le16 le32 u16At u32At bytes.put trailer
-    trailers.counted checksum total decode wrongQueue sameBytes heldRefused someRefused someAlike arrivalRefusal frameRefusal wrongTrailer hasTrailer countBack
+    trailers.counted checksum decode wrongQueue sameBytes heldRefused someRefused someAlike arrivalRefusal frameRefusal wrongTrailer hasTrailer countBack
     sumBack wrongKind wrongAddress wrongContent wrongBody wrongEntries eachOk entryOk precedes rising risingAfter zeros padded slots frameIn heldFrames without
     sendStep offerStep deliverStep named issueFrom startable capTaken upTo32 share noCounters withExtras countedSend countedOffer countedDelivery countedNothing
     commands.letter commands.withOne commands.withTwo commands.ofPieces commands.command firstLine.sizes firstLine.ofPieces firstLine.firstLine row lineEnd

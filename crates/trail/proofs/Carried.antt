@@ -7,9 +7,8 @@ use native.Mathlib.Omega.{arith}
 use lib.ListN.{getD, take}
 use lib.Pow.{field, mod-mod-pow}
 use lib.Seq.{take-nil}
-use Rattle.wire.specs.Trailer.{total}
 use Rattle.trail.specs.Cursor.{begun, inWindow, leaving, passing}
-use Rattle.trail.specs.Windows.{largest}
+use Rattle.trail.specs.Windows.{largest, total}
 use Rattle.trail.specs.declared.walk.Cursor.{Cursor}
 use Rattle.trail.proofs.Windows.{largest-cons, largest-nil}
 

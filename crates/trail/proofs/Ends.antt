@@ -1,5 +1,5 @@
 -- The end of what is left: where it is bad, and what a good one tells. Assumes nothing.
-use Prim.Native.Nat.{_+_, _-_, _<_, _≤_, ℕ}
+use Prim.Native.Nat.{_<_, _≤_, ℕ}
 use mathlib.Core.Bool.{Bool, cond, false, true, _||_}
 use mathlib.Core.List.{List, _++_}
 use mathlib.Core.Path.{_≡_, refl, sym}
@@ -7,10 +7,10 @@ use native.Mathlib.Omega.{arith}
 use borrow.Author.Tests.{le-ltb, lt-ltb, ltb-false}
 use lib.Dec.{ltb}
 use lib.ListN.{length, take, take-append-drop}
-use Rattle.trail.proofs.Tests.{either-first, either-second, neither}
 use Rattle.trail.specs.Sound.{unsound}
 use Rattle.trail.specs.SoundLast.{soundLast}
 use Rattle.trail.specs.Walk.{badEnd, lastFrame, lastLength, lastStart}
+use Rattle.wire.proofs.Tests.{either-first, either-second, neither}
 
 -- too short for a trailer
 pub bad-short : (s : List ℕ) → length s < 4 → badEnd s ≡ true

@@ -9,15 +9,16 @@ use Rattle.trail.specs.Examples.{Examples}
 use Rattle.trail.specs.Sound.{extraBit, inOwnRange, unsound}
 use Rattle.trail.specs.Trail.{trailOf}
 use Rattle.trail.specs.Walk.{badEnd, stops, walk, walkBack, walkCall}
-use Rattle.trail.specs.Windows.{largest, largestTotal, windows}
+use Rattle.trail.specs.Windows.{largest, largestTotal, total, windows}
 use Rattle.trail.specs.Write.{noRoomFor, writeCall}
-use Rattle.wire.specs.Bytes.{put, u16At, u32At}
-use Rattle.wire.specs.Trailer.{checksum, countBack, hasTrailer, sumBack, total}
+use Rattle.wire.specs.Bytes.{le16, put, u16At, u32At}
+use Rattle.wire.specs.Exchange.{exchanged}
+use Rattle.wire.specs.Trailer.{checksum, countBack, counted, hasTrailer, sealed, sumBack, trailer}
 
 pub examples : Examples
 unfolding entriesFrom entryAt header eachOk entryOk frameRefusal precedes rising risingAfter wrongAddress wrongBody wrongContent wrongEntries wrongKind
-    wrongTrailer wrongWindow extraBit inOwnRange unsound trailOf badEnd stops walk walkBack walkCall largest largestTotal windows noRoomFor writeCall put u16At
-    u32At checksum countBack hasTrailer sumBack total
+    wrongTrailer wrongWindow extraBit inOwnRange unsound trailOf badEnd stops walk walkBack walkCall largest largestTotal windows total noRoomFor writeCall put u16At
+    u32At checksum countBack hasTrailer sumBack exchanged sealed trailer counted le16
 examples =
     record {
       sound = (refl, (refl, (refl, (refl, (refl, tt)))));
@@ -39,4 +40,7 @@ examples =
       written = refl;
       noRoom = refl;
       bothBad = refl;
+      lures = refl;
+      luredShown = refl;
+      lured = refl;
     }

@@ -11,10 +11,9 @@ use Rattle.frame.specs.Header.{header}
 use Rattle.frame.specs.Refusals.{frameRefusal}
 use Rattle.frame.specs.RoundTrip.{SoundFrame}
 use Rattle.matrix.specs.Message.{InRange, Message, Sound}
-use Rattle.trail.proofs.Tests.{neither}
 use Rattle.trail.specs.FrameAlone.{FrameAlone}
 use Rattle.trail.specs.Sound.{inOwnRange, unsound}
-use Rattle.wire.proofs.Tests.{and-T, of-true}
+use Rattle.wire.proofs.Tests.{and-T, neither, of-true}
 use Rattle.wire.specs.Bytes.{AllBytes}
 use Rattle.wire.specs.Limits.{maxNodes}
 

@@ -6,9 +6,8 @@ use native.Mathlib.Decide.{decLe}
 use native.Mathlib.Omega.{arith}
 use lib.ListN.{drop, length, length-take, take, take-append-drop}
 use lib.Seq.{take-all}
-use Rattle.wire.specs.Trailer.{total}
 use Rattle.trail.specs.LargestMeans.{LargestMeans, Run}
-use Rattle.trail.specs.Windows.{largest}
+use Rattle.trail.specs.Windows.{largest, total}
 use Rattle.trail.proofs.Windows.{largest-cons, largest-nil, largest-short}
 
 -- a run at the front of at most w frames has no more extra frames than the first w frames

@@ -1,5 +1,4 @@
 -- Laws of the trail's definitions, and the theorems about them.
-pub mod Tests
 pub mod Lone
 pub mod Ends
 pub mod Stepping
@@ -11,4 +10,5 @@ pub mod Trails
 pub mod StepsWalk
 pub mod Looping
 pub mod FrameAlone
+pub mod Exchange
 pub mod Examples

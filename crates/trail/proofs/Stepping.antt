@@ -12,7 +12,6 @@ use lib.ListN.{getD, length, length-take, take}
 use lib.Seq.{getD-drop, getD-take, take-all}
 use Rattle.frame.specs.Header.{header}
 use Rattle.trail.proofs.Ends.{bad-none, good, good-some, some-good}
-use Rattle.trail.proofs.Tests.{neither}
 use Rattle.trail.specs.Cursor.{passing, wrongWindow}
 use Rattle.trail.specs.Sound.{extraBit, kindBit}
 use Rattle.trail.specs.Step.{stepAt, stepCall}
@@ -20,6 +19,7 @@ use Rattle.trail.specs.SoundLast.{soundLast}
 use Rattle.trail.specs.Walk.{badEnd, lastFrame, lastLength, lastStart}
 use Rattle.trail.specs.declared.walk.Cursor.{Cursor}
 use Rattle.trail.specs.declared.walk.StepAnswer.the-variants as stepAnswer
+use Rattle.wire.proofs.Tests.{neither}
 
 -- a window that is not wrong has 1 to 64 frames
 pub window-range : (w : ℕ) → wrongWindow w ≡ false → (1 ≤ w) × (w ≤ 64)

@@ -11,11 +11,11 @@ use lib.ListN.{length, length-append, length-take, take}
 use lib.Seq.{drop-at, getD-append-add, take-at}
 use Rattle.trail.proofs.Ends.{good, good-end}
 use Rattle.trail.proofs.Lone.{lone}
-use Rattle.trail.proofs.Tests.{either-first, either-second, neither}
 use Rattle.trail.specs.Sound.{extraBit, unsound}
 use Rattle.trail.specs.Trail.{placesBack, trailOf}
 use Rattle.trail.specs.Trails.{EachSound}
 use Rattle.trail.specs.Walk.{Walk, badEnd, lastFrame, lastLength, lastStart, stops, walkBack}
+use Rattle.wire.proofs.Tests.{either-first, either-second, neither}
 use Rattle.wire.specs.Bytes.{u16At}
 use Rattle.wire.specs.Trailer.{countBack}
 
@@ -98,17 +98,16 @@ walk-shows (x ∷ s) kinds e =
           (omega (arith, l)) (omega arith),
     )
 
--- a sound frame behind any bytes is found there
-module _ (s f : List ℕ) (e : unsound f ≡ false) where
+-- what points back to its own start is found behind any bytes
+module _ (s f : List ℕ) (long : 4 ≤ length f) (own : countBack f ≡ length f - 4) where
   back : countBack (s ++ f) ≡ length f - 4
   unfolding countBack u16At
   back =
-      let l = lone f e in
-      let k : length (s ++ f) - 4 ≡ length s + (length f - 4) = omega (arith, length-append s f, l .long) in
-      rw (k, add-assoc (length s) (length f - 4) 1, getD-append-add s f (length f - 4) 0, getD-append-add s f (length f - 4 + 1) 0) (l .back)
+      let k : length (s ++ f) - 4 ≡ length s + (length f - 4) = omega (arith, length-append s f) in
+      rw (k, add-assoc (length s) (length f - 4) 1, getD-append-add s f (length f - 4) 0, getD-append-add s f (length f - 4 + 1) 0) own
 
   pub last-length : lastLength (s ++ f) ≡ length f
-  last-length = omega (arith, back, lone f e .long)
+  last-length = omega (arith, back)
 
   pub last-start : lastStart (s ++ f) ≡ length s
   last-start = omega (arith, length-append s f, last-length)
@@ -119,16 +118,25 @@ module _ (s f : List ℕ) (e : unsound f ≡ false) where
   pub in-front : take (lastStart (s ++ f)) (s ++ f) ≡ s
   in-front = rw last-start (take-at s f (length s) refl)
 
+-- a sound frame is shown there
+module _ (s f : List ℕ) (e : unsound f ≡ false) where
+  long : 4 ≤ length f
+  long = omega (arith, lone f e .long)
+
+  own : countBack f ≡ length f - 4
+  own = lone f e .back
+
   pub not-stopped : stops (s ++ f) ≡ false
   not-stopped =
-      let l = lone f e .long in
       let n = length-append s f in
       let g : badEnd (s ++ f) ≡ false =
-      good-end (s ++ f) (omega (arith, n, l)) (omega (arith, n, last-length)) (rw last-frame e) in
-      stops-not (s ++ f) (ne-eqb (length (s ++ f)) 0 (λ z. absurd (omega (arith, n, l, z)))) g
+      good-end (s ++ f) (omega (arith, n, long)) (omega (arith, n, last-length s f long own)) (rw (last-frame s f long own) e) in
+      stops-not (s ++ f) (ne-eqb (length (s ++ f)) 0 (λ z. absurd (omega (arith, n, long, z)))) g
 
   pub shows-last : (kinds : List ℕ) → walkFrom (s ++ f) kinds ≡ showing (length s) (length f) (walkFrom s (extraBit f ∷ kinds))
-  shows-last kinds = walk-shows (s ++ f) kinds not-stopped ∙ rw (last-frame, in-front, last-start, last-length)
+  shows-last kinds =
+      walk-shows (s ++ f) kinds not-stopped
+      ∙ rw (last-frame s f long own, in-front s f long own, last-start s f long own, last-length s f long own)
 
 -- and so are sound frames end to end: the walk shows them, the last first, and goes on in front of them
 pub walk-over : (s kinds : List ℕ) (l : List (List ℕ)) → EachSound l → let v = walkFrom s (map extraBit l ++ kinds) in

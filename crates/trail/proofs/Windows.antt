@@ -9,9 +9,8 @@ use native.Mathlib.Omega.{arith}
 use lib.Dec.{T, leb, leb→le, le→leb}
 use lib.ListN.{length, take}
 use lib.Seq.{take-all}
-use Rattle.wire.specs.Trailer.{total}
 use Rattle.wire.proofs.Tests.{cond-no, cond-yes, decide}
-use Rattle.trail.specs.Windows.{largest, largestTotal, windows}
+use Rattle.trail.specs.Windows.{largest, largestTotal, total, windows}
 
 -- no frames have no extra frame
 pub largest-nil : (w : ℕ) → largest w [] ≡ 0

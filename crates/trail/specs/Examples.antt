@@ -1,9 +1,11 @@
 -- Examples, each by computation: a trail of five frames, its walk and windows, a trail that was cut, and refused frames and writes.
 use Prim.Native.Nat.{ℕ}
-use mathlib.Core.Bool.{true}
-use mathlib.Core.List.{List, [], _∷_}
+use mathlib.Core.Bool.{false, true}
+use mathlib.Core.List.{List, [], _∷_, _++_}
 use mathlib.Core.Path.{_≡_}
 use lib.ListN.{drop, replicate, take}
+use Rattle.wire.specs.Trailer.{sealed}
+use Rattle.wire.specs.Exchange.{exchanged}
 use Rattle.trail.specs.declared.walk.WalkAnswer.the-variants as walkAnswer
 use Rattle.trail.specs.declared.write.WriteAnswer.the-variants as writeAnswer
 use Rattle.trail.specs.Sound.{unsound}
@@ -12,16 +14,20 @@ use Rattle.trail.specs.Trails.{EachSound}
 use Rattle.trail.specs.Walk.{walk, walkCall}
 use Rattle.trail.specs.Write.{afterWrite, writeCall}
 
--- n 3: 0 sends "O" to 1, with this cap and sum; with cap 3 it is document 01's first example
+-- n 3: 0 sends "O" to 1, with this cap and first byte of the sum; with cap 3 it is document 01's first example, which document 02 (ix) ends 51 03
 abbrev pub userFrame : ℕ → ℕ → List ℕ
-userFrame cap sum = 1 ∷ 0 ∷ 1 ∷ 0 ∷ 1 ∷ 3 ∷ cap ∷ 0 ∷ 79 ∷ 9 ∷ 0 ∷ sum ∷ 0 ∷ []
+userFrame cap low = 1 ∷ 0 ∷ 1 ∷ 0 ∷ 1 ∷ 3 ∷ cap ∷ 0 ∷ 79 ∷ 9 ∷ 0 ∷ low ∷ 3 ∷ []
 
 -- n 3, cap 3: an extra frame from 0 to 1 that carries (2,1)=1
 abbrev pub extraFrame : List ℕ
-extraFrame = 2 ∷ 0 ∷ 1 ∷ 1 ∷ 0 ∷ 3 ∷ 3 ∷ 0 ∷ 2 ∷ 1 ∷ 1 ∷ 0 ∷ 0 ∷ 0 ∷ 14 ∷ 0 ∷ 28 ∷ 0 ∷ []
+extraFrame = 2 ∷ 0 ∷ 1 ∷ 1 ∷ 0 ∷ 3 ∷ 3 ∷ 0 ∷ 2 ∷ 1 ∷ 1 ∷ 0 ∷ 0 ∷ 0 ∷ 14 ∷ 0 ∷ 41 ∷ 1 ∷ []
 
 abbrev pub fiveFrames : List (List ℕ)
-fiveFrames = userFrame 3 97 ∷ extraFrame ∷ userFrame 3 97 ∷ extraFrame ∷ extraFrame ∷ []
+fiveFrames = userFrame 3 81 ∷ extraFrame ∷ userFrame 3 81 ∷ extraFrame ∷ extraFrame ∷ []
+
+-- a user frame whose body holds the bytes of another, all but two: these are its last byte, 9, and the count's first, 35, if they are exchanged
+abbrev pub lure : List ℕ
+lure = sealed (1 ∷ 0 ∷ 1 ∷ 0 ∷ 27 ∷ 3 ∷ 3 ∷ 0 ∷ 0 ∷ (replicate 17 209 ++ (1 ∷ 0 ∷ 1 ∷ 0 ∷ 1 ∷ 3 ∷ 3 ∷ 0 ∷ 9 ∷ [])))
 
 abbrev pub place : ℕ → ℕ → Place
 place start length = record { start = start; length = length }
@@ -48,9 +54,13 @@ pub record Examples : Type 0 where
   -- without its last byte it shows nothing
   pub endShown : walk (take 79 (trailOf fiveFrames)) .shown ≡ []
   -- a frame with cap below n, or above n × n, is not sound on its own
-  pub capBelow : unsound (userFrame 2 96) ≡ true
-  pub capAbove : unsound (userFrame 10 104) ≡ true
+  pub capBelow : unsound (userFrame 2 74) ≡ true
+  pub capAbove : unsound (userFrame 10 130) ≡ true
   -- a write: the frame is looked at first, then the room
-  pub written : writeCall (replicate 14 255) 1 (userFrame 3 97) ≡ afterWrite (writeAnswer.Written 14) (255 ∷ userFrame 3 97)
-  pub noRoom : writeCall (replicate 13 255) 1 (userFrame 3 97) ≡ afterWrite (writeAnswer.Refused 3) (replicate 13 255)
-  pub bothBad : writeCall [] 1 (userFrame 2 96) ≡ afterWrite (writeAnswer.Refused 19) []
+  pub written : writeCall (replicate 14 255) 1 (userFrame 3 81) ≡ afterWrite (writeAnswer.Written 14) (255 ∷ userFrame 3 81)
+  pub noRoom : writeCall (replicate 13 255) 1 (userFrame 3 81) ≡ afterWrite (writeAnswer.Refused 3) (replicate 13 255)
+  pub bothBad : writeCall [] 1 (userFrame 2 74) ≡ afterWrite (writeAnswer.Refused 19) []
+  -- where the count's own bytes are exchanged, the walk may show what was never written, here 13 bytes of a body; it is refused all the same
+  pub lures : unsound lure ≡ false
+  pub luredShown : walk (exchanged lure 34) .shown ≡ place 26 13 ∷ []
+  pub lured : walkCall (exchanged lure 34) 1 ≡ walkAnswer.Refused 19

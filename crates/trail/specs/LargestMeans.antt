@@ -4,8 +4,7 @@ use Prim.Native.Nat.{ℕ, _≤_, min}
 use mathlib.Core.List.{List, _++_}
 use mathlib.Core.Path.{_≡_}
 use lib.ListN.{length}
-use Rattle.wire.specs.Trailer.{total}
-use Rattle.trail.specs.Windows.{largest}
+use Rattle.trail.specs.Windows.{largest, total}
 
 -- a run of w successive frames of a trail, or the whole of a shorter one, with as many extra frames as r
 pub record Run (w : ℕ) (kinds : List ℕ) (r : ℕ) : Type 0 where

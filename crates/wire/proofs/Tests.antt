@@ -21,6 +21,10 @@ of-true b e = rw e tt
 pub of-false : (b : Bool) → b ≡ false → T (not b)
 of-false b e = rw e tt
 
+-- a test is not both
+pub not-both : (b : Bool) → b ≡ true → b ≡ false → ⊥
+not-both b t f = subst T (sym t ∙ f) tt
+
 pub not-not : (b : Bool) → T (not (not b)) → T b
 not-not true t = tt
 not-not false t = absurd t
@@ -87,6 +91,16 @@ or-not false b t = (tt, t)
 pub not-or : (a b : Bool) → T (not a) → T (not b) → T (not (a || b))
 not-or true b s t = absurd s
 not-or false b s t = t
+
+-- the same as equations: neither of two tests is met, or a test's first part is, or its second
+pub neither : (a b : Bool) → (a || b) ≡ false → (a ≡ false) × (b ≡ false)
+neither a b e = let p = or-not a b (of-false (a || b) e) in (is-false a (p .0), is-false b (p .1))
+
+pub either-first : (a b : Bool) → a ≡ true → (a || b) ≡ true
+either-first a b p = is-true (a || b) (either-T a b (inl (of-true a p)))
+
+pub either-second : (a b : Bool) → b ≡ true → (a || b) ≡ true
+either-second a b p = is-true (a || b) (either-T a b (inr (of-true b p)))
 
 -- several tests at once
 pub all-seven : (a b c d e f g : Bool) → T (a && b && c && d && e && f && g) → T a × T b × T c × T d × T e × T f × T g

@@ -1,9 +1,9 @@
 -- Laws of the checksum and the trailer. Assumes nothing.
-use Prim.Native.Nat.{_%_, _*_, _+_, _-_, _<_, _≤_, suc, ℕ}
+use Prim.Native.Nat.{_%_, _*_, _+_, _-_, _/_, _<_, _≤_, suc, ℕ}
 use mathlib.Core.Bool.{_&&_}
 use mathlib.Core.List.{List, [], _++_, _∷_, append-assoc}
 use mathlib.Core.Path.{_∙_, _≡_, ap, ap₂, refl, sym}
-use native.Mathlib.Nat.{add-assoc}
+use native.Mathlib.Nat.{add-assoc, add-mul, add-mul-mod-self-left, mod-add-div, mul-assoc}
 use native.Mathlib.Numerals.{add-one}
 use native.Mathlib.Omega.{arith}
 use lib.Dec.{T, eqb, eqb→eq, leb, leb→le, le→leb}
@@ -12,35 +12,45 @@ use lib.Seq.{drop-at, drop-cons, drop-drop, getD-append-add, length-take-le, tak
 use Rattle.wire.proofs.Bytes.{bytes-append, bytes-le16, length-le16, put-append, put-back, put-eq, rest, rest-end, two-back, two-bytes}
 use Rattle.wire.proofs.Tests.{T-and, and-T, eq→eqb}
 use Rattle.wire.specs.Bytes.{AllBytes, le16, put, u16At}
-use Rattle.wire.specs.Trailer.{checksum, countBack, counted, hasTrailer, sealed, sumBack, total, trailer}
+use Rattle.wire.specs.Trailer.{checksum, countBack, counted, hasTrailer, sealed, sumBack, trailer, weighted}
 
--- the u16 total by wrapping add, begun at acc
-unfoldable pub wrapped : ℕ → List ℕ → ℕ
-wrapped acc [] = acc
-wrapped acc (b ∷ s) = wrapped ((acc + b) % 65536) s
+-- the u16 total by wrapping add, begun at acc with weight w
+unfoldable pub wrapped : ℕ → ℕ → List ℕ → ℕ
+wrapped acc w [] = acc
+wrapped acc w (b ∷ s) = wrapped ((acc + w * b % 65536) % 65536) ((w + 1) % 65536) s
 
--- it is the list's sum modulo 65,536: the one place where the checksum is opened
-from : (acc : ℕ) (s : List ℕ) → acc < 65536 → wrapped acc s ≡ (acc + total s) % 65536
-unfolding wrapped total
-from acc [] h = omega arith
-from acc (b ∷ s) h = from ((acc + b) % 65536) s (omega arith) ∙ omega arith
+-- a weight modulo 65,536 weighs as the weight itself
+weighed-mod : (w b : ℕ) → w % 65536 * b % 65536 ≡ w * b % 65536
+weighed-mod w b =
+    let parts : w * b ≡ w % 65536 * b + 65536 * (w / 65536 * b) =
+    ap (λ (k : ℕ). k * b) (sym (mod-add-div w 65536)) ∙ rw (add-mul, mul-assoc) in
+    rw parts (sym (add-mul-mod-self-left (w % 65536 * b) 65536 (w / 65536 * b)))
 
-pub wrapped-checksum : (s : List ℕ) → wrapped 0 s ≡ checksum s
+-- it is the list's sum modulo 65,536, by the one lemma between the code's total and the definition
+from : (acc w : ℕ) (s : List ℕ) → acc < 65536 → wrapped acc (w % 65536) s ≡ (acc + weighted w s) % 65536
+unfolding wrapped
+from acc w [] h = omega arith
+from acc w (b ∷ s) h =
+    let next : (w % 65536 + 1) % 65536 ≡ (w + 1) % 65536 = omega arith in
+    rw (weighed-mod w b, next) (from ((acc + w * b % 65536) % 65536) (w + 1) s (omega arith) ∙ omega arith)
+
+pub wrapped-checksum : (s : List ℕ) → wrapped 0 1 s ≡ checksum s
 unfolding checksum
-wrapped-checksum s = from 0 s (omega arith) ∙ omega arith
+wrapped-checksum s = from 0 1 s (omega arith) ∙ omega arith
 
 pub checksum-lt : (s : List ℕ) → checksum s < 65536
 unfolding checksum
 checksum-lt s = omega arith
 
 -- one more byte of a loop that adds, and its end
-pub wrapped-rest : (acc : ℕ) (s : List ℕ) (i : ℕ) → i < length s → wrapped acc (drop i s) ≡ wrapped ((acc + getD s i 0) % 65536) (drop (i + 1) s)
+pub wrapped-rest : (acc w : ℕ) (s : List ℕ) (i : ℕ) → i < length s
+    → wrapped acc w (drop i s) ≡ wrapped ((acc + w * getD s i 0 % 65536) % 65536) ((w + 1) % 65536) (drop (i + 1) s)
 unfolding wrapped
-wrapped-rest acc s i h = rw (rest s i h)
+wrapped-rest acc w s i h = rw (rest s i h)
 
-pub wrapped-end : (acc : ℕ) (s : List ℕ) (i : ℕ) → length s ≤ i → i ≤ length s → wrapped acc (drop i s) ≡ acc
+pub wrapped-end : (acc w : ℕ) (s : List ℕ) (i : ℕ) → length s ≤ i → i ≤ length s → wrapped acc w (drop i s) ≡ acc
 unfolding wrapped
-wrapped-end acc s i h l = rw (rest-end s i h l)
+wrapped-end acc w s i h l = rw (rest-end s i h l)
 
 -- lengths
 pub length-trailer : (s : List ℕ) → length (trailer s) ≡ 4

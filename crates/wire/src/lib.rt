@@ -1,6 +1,6 @@
 //! Runs of bytes: the limits, little-endian fields, the checksum and the trailer. Nothing here knows of nodes or frames.
 ghost use mathlib.Core.Path.{_≡_};
-ghost use Prim.Native.Nat.{_+_, _-_, _*_, _≤_, _<_};
+ghost use Prim.Native.Nat.{_+_, _-_, _*_, _%_, _≤_, _<_};
 ghost use lib.ListN.{length, take, drop};
 ghost use Rattle.wire.specs.Limits.{maxNodes, maxHeld, maxBody, maxFrame, maxCount};
 ghost use Rattle.wire.specs.Bytes.{put, le16, le32, u16At, u32At};
@@ -41,13 +41,6 @@ pub fn constants() -> Limits
         frame: MAX_FRAME,
         count: MAX_COUNT,
     }
-}
-
-/// A byte as a number of sixteen bits.
-pub fn wide16(x: u8) -> u16
-    ensures { λ r. ⌜ r ≡ x ⌝ }
-{
-    x as u16
 }
 
 // The number of two bytes, the lowest first.
@@ -112,14 +105,23 @@ pub fn copy(out: &mut [u8], at: usize, s: &[u8])
     }
 }
 
-/// The sum of all bytes modulo 65,536, as a u16 total by wrapping add.
+// A byte times its weight, modulo 65,536.
+fn weighed(x: u8, weight: u16) -> u16
+    ensures { λ r. ⌜ r ≡ weight * x % 65536 ⌝ }
+{
+    (weight as u32 * (x as u32) % 65536) as u16
+}
+
+/// The sum, modulo 65,536, of each byte times one more than its offset, as a u16 total by wrapping add.
 pub fn checksum(s: &[u8]) -> u16
     ensures { λ r. ⌜ r ≡ checksum (now (s .entry)) ⌝ }
 {
     let mut acc: u16 = 0;
+    let mut weight: u16 = 1;
     let mut i = 0;
     while i < s.len() {
-        acc = std::num::wrapping_add_u16(acc, wide16(s[i]));
+        acc = std::num::wrapping_add_u16(acc, weighed(s[i], weight));
+        weight = std::num::wrapping_add_u16(weight, 1);
         i += 1;
     }
     acc

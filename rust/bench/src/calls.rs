@@ -37,10 +37,10 @@ impl Bench {
         Bench { image: state.record.to_image(), shelf: state.shelf.clone(), out, body, answer: [0; ANSWER] }
     }
 
-    /// The state as it was.
-    fn restore(&mut self, state: &State) {
-        self.image = state.record.to_image();
-        self.shelf.copy_from_slice(&state.shelf);
+    /// Image and queue as they were.
+    fn restore(&mut self, lent: &Bench) {
+        self.image = lent.image;
+        self.shelf.copy_from_slice(&lent.shelf);
     }
 }
 
@@ -68,8 +68,8 @@ pub fn plain(call: &Call, bench: &mut Bench) -> u8 {
 
 /// One round: nanoseconds a call, on the states that the rounds before it leave next.
 fn round(copies: &mut [Bench], row: &Row, turn: usize, side: Side) -> f64 {
-    let next = row.states.iter().cycle().skip(turn * copies.len() % row.states.len());
-    copies.iter_mut().zip(next).for_each(|(copy, state)| copy.restore(state));
+    let next = row.lent.iter().cycle().skip(turn * copies.len() % row.lent.len());
+    copies.iter_mut().zip(next).for_each(|(copy, lent)| copy.restore(lent));
     let time = nanoseconds(|| {
         for copy in copies.iter_mut() {
             black_box(side(&row.call, black_box(copy)));
@@ -78,22 +78,24 @@ fn round(copies: &mut [Bench], row: &Row, turn: usize, side: Side) -> f64 {
     time / copies.len() as f64
 }
 
-/// Times two sides of a row in turn, the first of them changing from round to round, and gives their medians; nothing
-/// where the row is not wanted. The check is made on each state before, of what both sides returned and left.
-pub fn time(row: &Row, sides: [Side; 2], check: fn(&Bench, &Bench) -> bool) -> Option<[f64; 2]> {
-    if !is_wanted(&row.name) {
+/// Times two sides in turn, each on the states of its row, the first of them changing from round to round, and gives their
+/// medians; nothing where the row is not wanted. The check is made on each state before, of what both sides returned and
+/// left.
+pub fn time(rows: [&Row; 2], sides: [Side; 2], check: fn(&Bench, &Bench) -> bool) -> Option<[f64; 2]> {
+    let name = &rows[0].name;
+    if !is_wanted(name) {
         return None;
     }
-    for state in &row.states {
-        let mut after = [Bench::new(state), Bench::new(state)];
-        let numbers = [0, 1].map(|side| sides[side](&row.call, &mut after[side]));
-        assert!(numbers[0] == numbers[1] && check(&after[0], &after[1]), "{}: the sides differ", row.name);
+    for (one, other) in rows[0].lent.iter().zip(&rows[1].lent) {
+        let mut after = [one.clone(), other.clone()];
+        let numbers = [0, 1].map(|side| sides[side](&rows[side].call, &mut after[side]));
+        assert!(numbers[0] == numbers[1] && check(&after[0], &after[1]), "{name}: the sides differ");
     }
-    let mut copies = vec![Bench::new(&row.states[0]); COPIES];
+    let mut copies = vec![rows[0].lent[0].clone(); COPIES];
     let mut times = [Vec::new(), Vec::new()];
     for turn in 0..WARM_UP + ROUNDS {
         for place in [turn % 2, (turn + 1) % 2] {
-            let time = round(&mut copies, row, turn, sides[place]);
+            let time = round(&mut copies, rows[place], turn, sides[place]);
             if turn >= WARM_UP {
                 times[place].push(time);
             }

@@ -23,7 +23,7 @@ fn calls_table() {
     println!("| call | proved | reference | ratio |");
     println!("|---|---|---|---|");
     for row in [4, 12].into_iter().flat_map(rows::rows) {
-        if let Some([proved, plain]) = time(&row, [proved, plain], same) {
+        if let Some([proved, plain]) = time([&row, &row], [proved, plain], same) {
             println!("| {} | {proved:.0} | {plain:.0} | {:.2} |", row.name, proved / plain);
         }
     }

@@ -1,5 +1,6 @@
 //! The rows of the node's calls: names, states, and what is called in them.
 
+use crate::calls::Bench;
 use crate::states::{self, frame, state, Size, State};
 use reference::Record;
 
@@ -10,6 +11,7 @@ const MERGES: u64 = 1024;
 pub const MOVER: usize = 0;
 
 /// A call with what it only reads; sends go to node 1.
+#[derive(Clone)]
 pub enum Call {
     SetUp { me: usize, n: usize, cap: usize },
     Send { body: Vec<u8> },
@@ -17,11 +19,19 @@ pub enum Call {
     Deliver,
 }
 
-/// A row: a call in a state, or in each of several in turn.
+/// A row: a call on what is lent in a state, or in each of several in turn.
+#[derive(Clone)]
 pub struct Row {
     pub name: String,
-    pub states: Vec<State>,
+    pub lent: Vec<Bench>,
     pub call: Call,
+}
+
+impl Row {
+    /// The row of a call in these states.
+    fn new(name: String, states: &[State], call: Call) -> Row {
+        Row { name, lent: states.iter().map(Bench::new).collect(), call }
+    }
 }
 
 /// The rows of all calls with n nodes.
@@ -49,22 +59,22 @@ pub fn rows(n: usize) -> Vec<Row> {
 /// Set-up of the last node with the largest cap.
 fn set_up_row(n: usize) -> Row {
     let nothing = State { record: Record::ZERO, shelf: Vec::new() };
-    Row { name: format!("set-up, n {n}"), states: vec![nothing], call: Call::SetUp { me: n - 1, n, cap: n * n } }
+    Row::new(format!("set-up, n {n}"), &[nothing], Call::SetUp { me: n - 1, n, cap: n * n })
 }
 
 /// Send of a body.
 fn send_row(name: String, state: State, body: Vec<u8>) -> Row {
-    Row { name, states: vec![state], call: Call::Send { body } }
+    Row::new(name, &[state], Call::Send { body })
 }
 
 /// Offer of a deliverable frame where so many are held that wait.
 fn offer_row(n: usize, held: usize, size: Size) -> Row {
     let note = if held == 16 { " (refused, 16)" } else { "" };
     let name = format!("offer, n {n}, {size}, {held} held{note}");
-    Row { name, states: vec![state(n, held, 0, size)], call: Call::Offer { frame: frame(n, 1, 0, size) } }
+    Row::new(name, &[state(n, held, 0, size)], Call::Offer { frame: frame(n, 1, 0, size) })
 }
 
 /// Deliver.
 fn deliver_row(name: String, states: Vec<State>) -> Row {
-    Row { name, states, call: Call::Deliver }
+    Row::new(name, &states, Call::Deliver)
 }

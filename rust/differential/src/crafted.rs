@@ -2,7 +2,7 @@
 
 use generate::shelves::frame_at;
 use generate::{images, Call, Case, Generator, Made};
-use reference::draft::{repair, Draft};
+use reference::draft::{has_right_sum, repair, Draft};
 use reference::frame::Frame;
 use reference::random::Random;
 use reference::Record;
@@ -40,12 +40,13 @@ impl Crafted {
             1 | 2 => self.generator.offer(),
             _ => self.generator.deliver(),
         };
+        let summed = has_right_sum(&case.image);
         images::change(&mut case.image, |record| {
             raise(&mut self.random, &mut record.m);
             raise(&mut self.random, &mut record.deliv);
         });
-        if let Made::Damaged { .. } = case.made {
-            // With other counts, the sum of a damaged image may by chance be right.
+        if has_right_sum(&case.image) != summed {
+            // A wrong sum stays as it was, and by chance it is the right one of the other counts.
             case.made = Made::Found;
         }
         if let Call::Offer { frame } = &mut case.call {

@@ -1,9 +1,11 @@
-//! Lists over links that lose, repeat, delay, reorder and damage frames, bring them to wrong nodes, starve a node and fill
-//! a matrix, with refused calls beside the list's own.
+//! Lists over links that lose, repeat, delay, reorder and damage frames, exchange neighbouring bytes, bring frames to wrong
+//! nodes, starve a node and fill a matrix, with refused calls beside the list's own.
 
 use crate::lists::{Pairs, Step, Stray, Totals};
+use generate::neighbours::exchange;
 use generate::{frames, records, topics, Call};
 use reference::ceiling::large_cap;
+use reference::draft::has_right_sum;
 use reference::history::ensure;
 use reference::host::ANSWER;
 use reference::image::IMAGE;
@@ -133,7 +135,7 @@ fn send_and_bring(random: &mut Random, pairs: &mut Pairs, from: usize, to: usize
     Ok(())
 }
 
-/// A link brings a frame, old or new, at times to a wrong node or with a changed byte.
+/// A link brings a frame, old or new, at times to a wrong node, with a changed byte or with neighbours exchanged.
 fn link(random: &mut Random, pairs: &mut Pairs) -> Step<()> {
     let count = pairs.issued.len();
     let reach = if random.once_in(3) { count } else { count.min(3 * pairs.n()) };
@@ -147,6 +149,7 @@ fn link(random: &mut Random, pairs: &mut Pairs) -> Step<()> {
             pairs.offer_issue(wrong, issue)?;
         }
         1 => bring_damaged(random, pairs, issue)?,
+        2 => bring_exchanged(random, pairs, issue)?,
         _ => {
             pairs.offer_issue(to, issue)?;
         }
@@ -154,16 +157,27 @@ fn link(random: &mut Random, pairs: &mut Pairs) -> Step<()> {
     Ok(())
 }
 
-/// Brings a frame with a changed byte. With a repaired trailer it might be held, so that the node then goes back.
+/// Brings a frame with a changed byte. With a right sum it might be held, so that the node then goes back.
 fn bring_damaged(random: &mut Random, pairs: &mut Pairs, issue: usize) -> Step<()> {
     let mut frame = pairs.issued[issue].clone();
     let to = frame[2] as usize;
     let repaired = random.once_in(2);
     frames::damage_byte(random, &mut frame, repaired);
-    if repaired {
+    if has_right_sum(&frame) {
         return pairs.try_frame(to, &frame);
     }
     pairs.offer(to, &frame)?;
+    Ok(())
+}
+
+/// A repeater brings a frame with unequal neighbours in front of its sum exchanged, which its node refuses by 8.
+fn bring_exchanged(random: &mut Random, pairs: &mut Pairs, issue: usize) -> Step<()> {
+    let mut frame = pairs.issued[issue].clone();
+    let to = frame[2] as usize;
+    exchange(random, &mut frame);
+    let answer = pairs.offer(to, &frame)?;
+    pairs.totals.reached.exchanged += 1;
+    ensure(answer == OfferAnswer::Refused(8), || format!("issue {issue} with neighbours exchanged: {answer:?}"))?;
     Ok(())
 }
 

@@ -13,6 +13,7 @@ pub mod printed;
 pub mod program;
 pub mod run;
 pub mod stored;
+pub mod taken;
 pub mod trails;
 
 pub use difference::Difference;

@@ -72,6 +72,8 @@ pub struct Reached {
     pub refused_at_sixteen: usize,
     /// Issued frames offered at a node that is not their destination.
     pub astray: usize,
+    /// Issued frames offered with unequal neighbours in front of their sum exchanged.
+    pub exchanged: usize,
     /// Refused calls beside the list's own.
     pub strays: usize,
     /// Matrices that became full, with (n − 1) × (n − 1) entries.

@@ -86,9 +86,11 @@ fn check_images(counts: &Counts) {
             assert!(met >= SELDOM, "{call} gave 20 for {made:?} only {met} times");
             assert!(sealed || counts.of_made(call, made, 0) == 0, "{call} took {made:?}");
         }
-        for made in [false, true].map(|sealed| Made::Resized { sealed }) {
+        let resized = [false, true].map(|sealed| Made::Resized { sealed });
+        for made in [resized[0], resized[1], Made::Exchanged, Made::Old] {
             let met = counts.of_made(call, made, 20);
             assert!(met >= LEAST / 4, "{call} gave 20 for {made:?} only {met} times");
+            assert_eq!(counts.of_made(call, made, 0), 0, "{call} took {made:?}");
         }
         assert!(counts.of_made(call, Made::Written, 0) >= LEAST);
     }

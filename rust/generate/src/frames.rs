@@ -1,8 +1,9 @@
 //! Frames for a record: sound ones, and ones that meet a check.
 
+use crate::neighbours::exchange;
 use crate::records::{any_count, TOP};
 use crate::topics::TOPICS;
-use reference::draft::{repair, Draft};
+use reference::draft::{repair, repair_sum, write_old_sum, Draft};
 use reference::frame::{Entry, EXTRA, USER};
 use reference::random::Random;
 use reference::{Record, Refusal};
@@ -240,15 +241,19 @@ fn repeat_number(random: &mut Random, record: &Record, draft: &mut Draft) {
     }
 }
 
-/// A wrong length or a wrong trailer.
+/// A wrong length, a wrong trailer, neighbours exchanged, or an old plant's sum.
 fn damage_trailer(random: &mut Random, bytes: &mut Vec<u8>) {
     let length = bytes.len();
-    match random.below(6) {
+    match random.below(8) {
         0 => bytes.truncate(random.pick(&[0, 1, 4, 8, 11])),
         1 => bytes.resize(random.pick(&[803, 804, 1024, 65_548]), 0),
         2 => bytes.truncate(length - 1),
         3 => bytes.push(0),
         4 => shift_count(random, bytes),
+        5 => {
+            exchange(random, bytes);
+        }
+        6 => write_old_sum(bytes),
         _ => bytes[length - 1 - random.below(4)] ^= 1 << random.below(8),
     }
     if bytes.len() < 12 || bytes.len() > 802 {
@@ -262,8 +267,7 @@ fn shift_count(random: &mut Random, bytes: &mut [u8]) {
     let by = random.pick(&[1u16, 4, 65_535]);
     let count = u16::from_le_bytes([bytes[at], bytes[at + 1]]).wrapping_add(by);
     bytes[at..at + 2].copy_from_slice(&count.to_le_bytes());
-    let sum = bytes[..at + 2].iter().fold(0u16, |sum, byte| sum.wrapping_add(*byte as u16));
-    bytes[at + 2..].copy_from_slice(&sum.to_le_bytes());
+    repair_sum(bytes);
 }
 
 /// An e or b that does not fit the length, under a right trailer.

@@ -1,6 +1,8 @@
-//! Images: as a record's is written, damaged in each part with and without a right trailer, and of other lengths.
+//! Images: as a record's is written, damaged in each part with and without a right trailer, with neighbours exchanged,
+//! with an old plant's sum, and of other lengths.
 
-use reference::draft::repair;
+use crate::neighbours;
+use reference::draft::{has_right_sum, repair, repair_sum, write_old_sum};
 use reference::frame::trailer_of;
 use reference::image::{Image, DELIV_START, FIELDS, HELD, IMAGE, M_START};
 use reference::random::Random;
@@ -31,6 +33,10 @@ pub enum Made {
     Damaged { part: Part, sealed: bool },
     /// Cut or lengthened; sealed where a right trailer stands at its end.
     Resized { sealed: bool },
+    /// Written, then unequal neighbours in front of the sum exchanged.
+    Exchanged,
+    /// Written as in an old plant, where that gives another sum.
+    Old,
     /// Bytes as they lay.
     Found,
 }
@@ -71,14 +77,37 @@ pub fn any_image(random: &mut Random, record: &Record, times: usize) -> (Vec<u8>
     if !random.once_in(times) {
         return (image.to_vec(), Made::Written);
     }
-    if random.once_in(3) {
-        let (length, sealed) = (any_length(random), random.once_in(2));
-        return (resized(random, &image, length, sealed), Made::Resized { sealed });
+    let made = match random.below(9) {
+        0..=2 => {
+            let (length, sealed) = (any_length(random), random.once_in(2));
+            return (resized(random, &image, length, sealed), Made::Resized { sealed });
+        }
+        3 => exchange(random, &mut image),
+        4 => age(&mut image),
+        _ => {
+            let ways: Vec<(Part, bool)> = damages().collect();
+            let (part, sealed) = random.pick(&ways);
+            damage(random, &mut image, part, sealed);
+            Made::Damaged { part, sealed }
+        }
+    };
+    (image.to_vec(), made)
+}
+
+/// Exchanges unequal neighbours in front of the sum, of which the two bytes of the count always are some.
+pub fn exchange(random: &mut Random, image: &mut Image) -> Made {
+    neighbours::exchange(random, image);
+    Made::Exchanged
+}
+
+/// Writes the sum of an old plant, which may by chance be the right one.
+pub fn age(image: &mut Image) -> Made {
+    write_old_sum(image);
+    if has_right_sum(image) {
+        Made::Written
+    } else {
+        Made::Old
     }
-    let ways: Vec<(Part, bool)> = damages().collect();
-    let (part, sealed) = random.pick(&ways);
-    damage(random, &mut image, part, sealed);
-    (image.to_vec(), Made::Damaged { part, sealed })
 }
 
 /// Changes bits of a part; sealed, the trailer behind a field is made that of the fields, and the sum behind the count
@@ -88,16 +117,12 @@ pub fn damage(random: &mut Random, image: &mut Image, part: Part, sealed: bool) 
     let index = random.within(range.start, range.end - 1);
     image[index] ^= if random.once_in(3) { random.within(1, 255) as u8 } else { 1 << random.below(8) };
     match (sealed, part) {
-        (true, Part::Count) => write_sum(image),
+        (true, Part::Count) => repair_sum(image),
         (true, _) => repair(image),
+        // The sum does not see the highest bit of a byte that counts 512 times; with the lowest one it does.
+        (false, _) if has_right_sum(image) => image[index] ^= 1,
         _ => (),
     }
-}
-
-/// Writes the sum of the 630 bytes in front of it, whatever the count is.
-fn write_sum(image: &mut Image) {
-    let sum = image[..FIELDS + 2].iter().fold(0, |sum: u16, byte| sum.wrapping_add(*byte as u16));
-    image[FIELDS + 2..].copy_from_slice(&sum.to_le_bytes());
 }
 
 /// A length that is not an image's, most often near it.
@@ -116,23 +141,27 @@ pub fn resized(random: &mut Random, image: &Image, length: usize, sealed: bool) 
     if sealed && random.once_in(2) {
         repair(&mut bytes);
     } else if sealed && length >= IMAGE {
-        // The trailer of 628 bytes, at the end of more.
+        // The trailer of 628 bytes, at the end of more, at times with the sum of all in front of it.
         let trailer = trailer_of(&image[..FIELDS]);
         bytes[length - trailer.len()..].copy_from_slice(&trailer);
+        if random.once_in(2) {
+            repair_sum(&mut bytes);
+        }
     }
     bytes
 }
 
-/// Changes the record of an image of 632 bytes; its trailer is made right again if it was right.
+/// Changes the record of an image of 632 bytes; its count stays, and its sum too, unless that was right and is made so again.
 pub fn change(image: &mut [u8], change: impl FnOnce(&mut Record)) {
     let Ok(image) = <&mut Image>::try_from(image) else {
         return;
     };
     let mut record = Record::from_fields(image);
-    let (before, sealed) = (image[FIELDS..].to_vec(), Record::from_image(image).is_some());
+    let (trailer, summed) = (image[FIELDS..].to_vec(), has_right_sum(image));
     change(&mut record);
     record.write_image(image);
-    if !sealed {
-        image[FIELDS..].copy_from_slice(&before);
+    image[FIELDS..].copy_from_slice(&trailer);
+    if summed {
+        repair_sum(image);
     }
 }

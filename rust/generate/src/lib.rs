@@ -7,6 +7,7 @@ pub mod frames;
 pub mod generator;
 pub mod images;
 pub mod loads;
+pub mod neighbours;
 pub mod records;
 pub mod shelves;
 pub mod states;

@@ -1,7 +1,7 @@
 //! Shelves: sound ones of any frames, and ones that meet check 4.
 
-use crate::frames;
-use reference::draft::{repair, Draft};
+use crate::{frames, neighbours};
+use reference::draft::{repair, write_old_sum, Draft};
 use reference::frame::{Frame, EXTRA, USER};
 use reference::random::Random;
 use reference::{shelf, Record};
@@ -59,7 +59,7 @@ pub fn twin(shelf: &[u8], place: usize, other_kind: bool) -> Option<Vec<u8>> {
 }
 
 /// How many ways there are to damage a shelf.
-pub const WAYS: usize = 12;
+pub const WAYS: usize = 14;
 
 /// Damages a sound shelf, or the number of held frames, in one of the ways, and says whether it has that way.
 pub fn damage(random: &mut Random, record: &mut Record, shelf: &mut [u8], way: usize) -> bool {
@@ -76,6 +76,8 @@ pub fn damage(random: &mut Random, record: &mut Record, shelf: &mut [u8], way: u
         9 => exceed_place(random, shelf, held),
         10 => empty_place(random, shelf, held),
         11 => shift(shelf),
+        12 => exchange(random, shelf, held),
+        13 => age(random, shelf, held),
         _ => false,
     }
 }
@@ -164,4 +166,23 @@ fn empty_place(random: &mut Random, shelf: &mut [u8], held: usize) -> bool {
 fn shift(shelf: &mut [u8]) -> bool {
     shelf.rotate_right(1);
     true
+}
+
+/// A held frame with unequal neighbours in front of its sum exchanged.
+fn exchange(random: &mut Random, shelf: &mut [u8], held: usize) -> bool {
+    let frame = any_held(random, shelf, held);
+    neighbours::exchange(random, frame)
+}
+
+/// A held frame with an old plant's sum, which may by chance be the right one.
+fn age(random: &mut Random, shelf: &mut [u8], held: usize) -> bool {
+    write_old_sum(any_held(random, shelf, held));
+    false
+}
+
+/// The bytes of any held frame.
+fn any_held<'a>(random: &mut Random, shelf: &'a mut [u8], held: usize) -> &'a mut [u8] {
+    let place = random.below(held);
+    let length = frame_at(shelf, place).map_or(0, |frame| frame.bytes().len());
+    &mut shelf[PLACE * place..][..length]
 }

@@ -2,9 +2,10 @@
 
 use crate::case::{Buffers, Call, Case};
 use crate::frames;
+use crate::neighbours::exchange_anywhere;
 use crate::records::any_record;
 use reference::cursor::Cursor;
-use reference::draft::{repair, Draft};
+use reference::draft::{repair, repair_sum, write_old_sum, Draft};
 use reference::frame::{Frame, EXTRA, TRAILER, USER};
 use reference::random::Random;
 use reference::trail::back;
@@ -76,13 +77,14 @@ impl Trails {
     pub fn file(&mut self) -> Vec<u8> {
         let frames = self.frames();
         let random = &mut self.random;
-        match random.below(20) {
-            0..=9 => frames.concat(),
-            10 => any_bytes(random),
-            11..=14 => with_bad_frame(random, frames),
+        match random.below(26) {
+            0..=12 => frames.concat(),
+            13 => any_bytes(random),
+            14..=18 => with_bad_frame(random, frames),
+            19 => old(frames),
             way => {
                 let mut file = frames.concat();
-                damage(random, &mut file, way - 15);
+                damage(random, &mut file, way - 20);
                 file
             }
         }
@@ -153,11 +155,12 @@ fn bad(random: &mut Random) -> Vec<u8> {
     }
 }
 
-/// A frame with zeros put in front of its trailer, so that its sum and what its count says of e and b stay right.
+/// A frame with zeros put in front of its trailer, under a right sum; what its count says of e and b stays right.
 fn stretched(random: &mut Random) -> Vec<u8> {
     let mut bytes = any_draft(random).bytes();
     let at = bytes.len() - TRAILER;
     bytes.splice(at..at, vec![0; random.within(1, 3)]);
+    repair_sum(&mut bytes);
     bytes
 }
 
@@ -188,7 +191,14 @@ fn with_bad_frame(random: &mut Random, mut frames: Vec<Vec<u8>>) -> Vec<u8> {
     frames.concat()
 }
 
-/// Damages a trail's bytes in one of five ways: cut at its end or start, bits flipped, bytes put in front or behind.
+/// The trail of an old plant.
+fn old(mut frames: Vec<Vec<u8>>) -> Vec<u8> {
+    frames.iter_mut().for_each(|frame| write_old_sum(frame));
+    frames.concat()
+}
+
+/// Damages a trail's bytes in one of six ways: cut at its end or start, bits flipped, bytes put in front or behind, unequal
+/// neighbours exchanged anywhere.
 fn damage(random: &mut Random, file: &mut Vec<u8>, way: usize) {
     let few = random.within(1, 13).min(file.len());
     match way {
@@ -197,7 +207,10 @@ fn damage(random: &mut Random, file: &mut Vec<u8>, way: usize) {
         1 => drop(file.drain(..random.below(file.len() + 1))),
         2 => flip(random, file),
         3 => drop(file.splice(..0, random.bytes(few))),
-        _ => file.extend(random.bytes(few)),
+        4 => file.extend(random.bytes(few)),
+        _ => {
+            exchange_anywhere(random, file);
+        }
     }
 }
 

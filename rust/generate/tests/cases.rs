@@ -2,8 +2,9 @@
 
 use generate::counts::Counts;
 use generate::images::{self, Part};
+use generate::neighbours::{exchange, exchange_anywhere, exchanged, places};
 use generate::trails::{fault, Trails};
-use generate::{frames, loads, records, shelves, states, Call, Case, Generator, Outcome};
+use generate::{frames, loads, records, shelves, states, Call, Case, Generator, Made, Outcome};
 use reference::frame::Frame;
 use reference::random::Random;
 use reference::recount::Fates;
@@ -121,6 +122,51 @@ fn each_way_damages_an_image() {
         // A field with its trailer made right may leave a sound image of another record.
         assert_eq!(changed > 0, sealed && part != Part::Count, "{part:?} {sealed}: {changed}");
     }
+}
+
+#[test]
+fn exchanged_neighbours_and_an_old_sum_damage_an_image() {
+    let mut random = Random::new(21);
+    for _ in 0..2_000 {
+        let record = records::any_record(&mut random);
+        let (mut image, mut aged) = (record.to_image(), record.to_image());
+        assert_eq!(images::exchange(&mut random, &mut image), Made::Exchanged);
+        let made = images::age(&mut aged);
+        let [sealed, same] = [image, aged].map(|image| Record::from_image(&image).is_some());
+        assert_eq!((sealed, made), (false, if same { Made::Written } else { Made::Old }));
+    }
+}
+
+#[test]
+fn exchanged_neighbours_damage_a_frame_and_a_trail() {
+    let (mut random, mut trails) = (Random::new(22), Trails::new(22));
+    let mut whole = 0;
+    for _ in 0..500 {
+        let frames = trails.frames();
+        for mut frame in frames.clone() {
+            assert!(exchange(&mut random, &mut frame));
+            assert_eq!(Frame::check_alone(&frame).err(), Some(8));
+        }
+        let mut file = frames.concat();
+        let changed = exchange_anywhere(&mut random, &mut file);
+        assert_eq!(changed, file != frames.concat());
+        whole += usize::from(changed && back(&file).all(|shown| shown.is_ok()));
+    }
+    assert_eq!(whole, 0);
+}
+
+#[test]
+fn neighbours_stand_in_front_of_the_sum() {
+    assert_eq!([0, 2, 3, 4, 13].map(|length| places(&vec![0; length])), [0..0, 0..0, 0..0, 0..1, 0..10]);
+    assert_eq!(exchanged(b"abcd", 2), b"abdc");
+    let mut random = Random::new(23);
+    assert!(!exchange(&mut random, &mut [1, 1, 1, 2, 3]) && !exchange_anywhere(&mut random, &mut [1, 1]));
+    let (mut bytes, mut met) = ([1, 1, 2, 9, 9], BTreeSet::new());
+    for _ in 0..50 {
+        assert!(exchange(&mut random, &mut bytes));
+        met.insert(bytes);
+    }
+    assert_eq!(met, BTreeSet::from([[1, 1, 2, 9, 9], [1, 2, 1, 9, 9], [2, 1, 1, 9, 9]]));
 }
 
 #[test]

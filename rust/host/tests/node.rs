@@ -32,7 +32,7 @@ fn a_send_issues_the_frame_of_the_first_example() {
     let mut output = Output::new();
     let mut node = Node::set_up(0, 3, 3).unwrap();
     let sent = node.send(1, Class::Camera, b"O", &mut output).unwrap();
-    let example = [0x01, 0x00, 0x01, 0x00, 0x01, 0x03, 0x03, 0x00, 0x4F, 0x09, 0x00, 0x61, 0x00];
+    let example = [0x01, 0x00, 0x01, 0x00, 0x01, 0x03, 0x03, 0x00, 0x4F, 0x09, 0x00, 0x51, 0x03];
     assert_eq!((sent.extras, sent.issued), (0, &example[..]));
     let frame = sent.frames().next().unwrap();
     assert_eq!((frame.kind(), frame.from(), frame.to(), frame.number()), (Some(Kind::User), 0, 1, 1));

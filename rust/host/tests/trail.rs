@@ -2,7 +2,7 @@
 
 mod common;
 
-use common::{path, spelled};
+use common::{cut, path, sealed_as_before, spelled};
 use host::trail::write;
 use std::ffi::OsStr;
 use std::fs::File;
@@ -75,6 +75,19 @@ fn it_says_where_a_damaged_trail_stops() {
     assert_eq!(printed("cut", cut, "5"), ("R 19 at byte 40: no sound frame ends there\n".to_string(), Some(1)));
     let front = [b"abc", &sample()[..]].concat();
     assert!(printed("front", &front, "5").0.ends_with("3 13 user 0 1 1\nR 19 at byte 3: no sound frame ends there\n"));
+}
+
+#[test]
+fn of_an_old_trail_it_shows_nothing() {
+    let aged = |frame: Vec<u8>| sealed_as_before(frame[..frame.len() - 4].to_vec());
+    let old: Vec<u8> = cut(&sample()).into_iter().flat_map(aged).collect();
+    assert_eq!(old[9..13], [0x09, 0x00, 0x61, 0x00]);
+    let line = format!("R 19 at byte {}: no sound frame ends there\n", old.len());
+    assert_eq!(printed("old", &old, "5"), (line.clone(), Some(1)));
+    // Written on without being closed first, it shows the new frames alone.
+    let both = [&old[..], &sample()].concat();
+    let lines = format!("138 76 user 11 10 1\n120 18 extra 2 1 5\n107 13 user 0 1 1\n{line}");
+    assert_eq!(printed("old-and-new", &both, "5"), (lines, Some(1)));
 }
 
 #[test]

@@ -1,6 +1,6 @@
 //! A frame spelled out from free parts, sound or not, for tests and generators.
 
-use crate::frame::{trailer_of, Entry, Frame, TRAILER};
+use crate::frame::{sum_of, trailer_of, Entry, Frame, TRAILER};
 
 /// The parts of a frame, each of which may break its rule.
 #[derive(Clone, Debug, PartialEq, Eq)]
@@ -58,5 +58,24 @@ pub fn repair(bytes: &mut [u8]) {
     if let Some(count) = bytes.len().checked_sub(TRAILER) {
         let trailer = trailer_of(&bytes[..count]);
         bytes[count..].copy_from_slice(&trailer);
+    }
+}
+
+/// Writes a right sum at the end of the bytes, whatever their count is.
+pub fn repair_sum(bytes: &mut [u8]) {
+    if let Some((front, sum)) = bytes.split_last_chunk_mut::<2>() {
+        *sum = sum_of(&*front).to_le_bytes();
+    }
+}
+
+/// Whether the sum at the end of the bytes is right, whatever their count is.
+pub fn has_right_sum(bytes: &[u8]) -> bool {
+    bytes.split_last_chunk::<2>().is_some_and(|(front, sum)| sum_of(front).to_le_bytes() == *sum)
+}
+
+/// Writes the sum of an old plant at the end of the bytes, in which each byte counts once, whatever its offset.
+pub fn write_old_sum(bytes: &mut [u8]) {
+    if let Some((front, sum)) = bytes.split_last_chunk_mut::<2>() {
+        *sum = front.iter().fold(0, |sum: u16, byte| sum.wrapping_add(u16::from(*byte))).to_le_bytes();
     }
 }

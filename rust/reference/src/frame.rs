@@ -192,16 +192,19 @@ fn has_sound_parties(bytes: &[u8], n: u8, cap: u8) -> bool {
     bytes[5] == n && bytes[6] == cap && from < n && to < n && from != to
 }
 
-/// The byte count in front of the trailer, then the sum, modulo 65,536, of all bytes before the sum.
+/// The byte count in front of the trailer, then the sum of all bytes before the sum, the two of the count among them.
 pub fn trailer_of(front: &[u8]) -> [u8; TRAILER] {
     let count = (front.len() as u16).to_le_bytes();
-    let sum = sum_of(front).wrapping_add(sum_of(&count)).to_le_bytes();
+    let sum = sum_of(front.iter().chain(&count)).to_le_bytes();
     [count[0], count[1], sum[0], sum[1]]
 }
 
-/// The sum of the bytes modulo 65,536.
-fn sum_of(bytes: &[u8]) -> u16 {
-    bytes.iter().fold(0, |sum: u16, byte| sum.wrapping_add(*byte as u16))
+/// The sum, modulo 65,536, of each byte times one more than its offset.
+pub fn sum_of<'a>(bytes: impl IntoIterator<Item = &'a u8>) -> u16 {
+    bytes.into_iter().enumerate().fold(0, |sum: u16, (offset, byte)| {
+        let weight = (offset as u16).wrapping_add(1);
+        sum.wrapping_add(weight.wrapping_mul(u16::from(*byte)))
+    })
 }
 
 /// Frame output: issued frames end to end in issue order.

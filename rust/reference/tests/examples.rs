@@ -7,7 +7,7 @@ use reference::frame::{Entry, EXTRA, USER};
 use reference::list::List;
 use reference::*;
 
-const ORDER: [u8; 13] = [0x01, 0x00, 0x01, 0x00, 0x01, 0x03, 0x03, 0x00, 0x4F, 0x09, 0x00, 0x61, 0x00];
+const ORDER: [u8; 13] = [0x01, 0x00, 0x01, 0x00, 0x01, 0x03, 0x03, 0x00, 0x4F, 0x09, 0x00, 0x51, 0x03];
 
 #[test]
 fn a_fresh_node_sends_one_letter() {
@@ -22,7 +22,7 @@ fn a_fresh_node_sends_one_letter() {
 #[test]
 fn a_wrong_sum_is_8() {
     let mut wrong = ORDER;
-    wrong[11] = 0x62;
+    wrong[11] = 0x52;
     assert_eq!(offer_number(fresh(1, 3, 3), &ORDER, &empty_shelf()), 0);
     assert_eq!(offer_number(fresh(1, 3, 3), &wrong, &empty_shelf()), 8);
 }

@@ -115,7 +115,7 @@ fn a_send_answers_with_extra_frames_and_frame_bytes_alone() {
     assert_eq!(answer[..ANSWER], [0, 0, 0, 0, 0, 0, 0, 0, 0, 13, 0]);
     assert_eq!(answer[ANSWER..], LEFT[ANSWER..]);
     assert_eq!(image, with(0, 3, 3, &[(0, 1, 1)], &[]).to_image());
-    assert_eq!(out[..14], [1, 0, 1, 0, 1, 3, 3, 0, 0x4F, 9, 0, 0x61, 0, MARK]);
+    assert_eq!(out[..14], [1, 0, 1, 0, 1, 3, 3, 0, 0x4F, 9, 0, 0x51, 3, MARK]);
 }
 
 #[test]

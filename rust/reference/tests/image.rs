@@ -28,12 +28,14 @@ fn fields_stand_in_their_order() {
 fn the_trailer_has_the_count_628_and_the_sum_in_front_of_the_sum() {
     let image = sample().to_image();
     assert_eq!(image[628..630], [0x74, 0x02]);
-    let sum: usize = image[..630].iter().map(|byte| *byte as usize).sum();
-    assert_eq!(sum, 1 + 3 + 4 + 10 + 5 + 0x0B + 0x0A + 9 + 0x74 + 0x02);
-    assert_eq!(image[630..], [sum as u8, (sum >> 8) as u8]);
+    let fields = 1 + 3 * 2 + 4 * 3 + (4 * 12 + 3 * 13 + 2 * 14 + 15) + 5 * 100 + (0x0B * 588 + 0x0A * 589) + 9 * 628;
+    let count = 0x74 * 629 + 0x02 * 630;
+    let sum = (fields + count) % 65_536;
+    assert_eq!(image[630..], [(sum % 256) as u8, (sum / 256) as u8]);
     let full: Image = [0xFF; IMAGE];
     let largest = Record::from_fields(&full).to_image();
-    assert_eq!(largest[630..], ((628 * 255 + 0x74 + 0x02) as u16).to_le_bytes());
+    let sum = (255 * (628 * 629 / 2) + count) % 65_536;
+    assert_eq!(largest[630..], [(sum % 256) as u8, (sum / 256) as u8]);
 }
 
 #[test]

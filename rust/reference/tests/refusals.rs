@@ -3,7 +3,7 @@
 mod common;
 
 use common::*;
-use reference::draft::{repair, Draft};
+use reference::draft::{repair, repair_sum, Draft};
 use reference::frame::{EXTRA, USER};
 use reference::*;
 
@@ -221,7 +221,8 @@ fn check_8() {
     }
     let mut wrong_count = bytes.clone();
     let at = bytes.len() - 4;
-    (wrong_count[at], wrong_count[at + 2]) = (bytes[at] + 1, bytes[at + 2].wrapping_add(1));
+    wrong_count[at] += 1;
+    repair_sum(&mut wrong_count);
     assert_eq!([number(&bytes), number(&wrong_count), number(&bytes[..at])], [0, 8, 8]);
 }
 

@@ -4,7 +4,7 @@ mod common;
 
 use common::draft;
 use reference::cursor::Cursor;
-use reference::draft::{repair, Draft};
+use reference::draft::{repair, repair_sum, Draft};
 use reference::frame::{EXTRA, USER};
 use reference::random::Random;
 use reference::trail::{back, largest, walk, write};
@@ -191,13 +191,15 @@ fn either_trailer_field_wrong() {
     }
     // The count points one byte too far or not far enough, under a right sum.
     for by in [1, u8::MAX] {
-        let mut wrong = [&[0], &bytes[..]].concat();
-        (wrong[10], wrong[12]) = (wrong[10].wrapping_add(by), wrong[12].wrapping_add(by));
-        assert_eq!(shown(&wrong), (vec![], Err(19)), "{by}");
-        assert!(!is_taken(&wrong[1..]), "{by}");
+        let mut wrong = bytes.clone();
+        wrong[9] = wrong[9].wrapping_add(by);
+        repair_sum(&mut wrong);
+        assert!(!is_taken(&wrong), "{by}");
+        assert_eq!(shown(&[&[0], &wrong[..]].concat()), (vec![], Err(19)), "{by}");
     }
-    // A zero in front of the trailer, so that the sum stays right and the count is right for e and b.
-    let stretched = [&bytes[..9], &[0], &bytes[9..]].concat();
+    // A zero in front of the trailer, under a right sum, and the count is right for e and b.
+    let mut stretched = [&bytes[..9], &[0], &bytes[9..]].concat();
+    repair_sum(&mut stretched);
     assert_eq!(write(&mut [FILL; 40], 0, &stretched), Err(19));
     assert_eq!(shown(&stretched), (vec![], Err(19)));
 }

@@ -1,24 +1,11 @@
--- The small numbers into zeros, then the trailer, and all of it over the lent bytes. Assumes nothing.
+-- Zeros over the lent bytes, the small numbers into them, and then the trailer. Assumes nothing.
 use mathlib.Core.Path.{_∙_}
+use native.Mathlib.Omega.{arith}
 use borrow.Author.Needs.{needs}
-use Rattle.image.proofs.Stored.{laid-front, laid-sealed, laid-zeros, put-whole}
+use Rattle.image.proofs.Stored.{laid-as, laid-front, laid-sealed, laid-zeros, put-whole}
 use Rattle.image.proofs.store_fresh.Statement.{statement}
 use Rattle.image.proofs.store_fresh.Tie as tie
-
-array-write-fresh : tie.Need-array-write-fresh
-array-write-fresh c = search needs
-
-array-write-fresh-2 : tie.Need-array-write-fresh-2
-array-write-fresh-2 c = search needs
-
-array-write-fresh-3 : tie.Need-array-write-fresh-3
-array-write-fresh-3 c = search needs
-
-slice-aggregate-write-trailer : tie.Need-slice-aggregate-write-trailer
-slice-aggregate-write-trailer c = search needs
-
-write-trailer-requires : tie.Need-write-trailer-requires
-write-trailer-requires c κs = search needs
+use lib.ListN.{length-set}
 
 slice-aggregate-copy : tie.Need-slice-aggregate-copy
 slice-aggregate-copy c = search needs
@@ -26,26 +13,38 @@ slice-aggregate-copy c = search needs
 copy-requires : tie.Need-copy-requires
 copy-requires c κs = search needs
 
+slice-write-s : tie.Need-slice-write-s
+slice-write-s c = search needs
+
+slice-write-s-2 : tie.Need-slice-write-s-2
+slice-write-s-2 c = simp length-set (omega (arith, c .before .before .copy .kept .0, c .before .before .before .before .before .before .pre))
+
+slice-write-s-3 : tie.Need-slice-write-s-3
+slice-write-s-3 c = simp length-set (omega (arith, c .before .before .copy .kept .0, c .before .before .before .before .before .before .pre))
+
+write-trailer-requires : tie.Need-write-trailer-requires
+write-trailer-requires c κs = simp length-set (omega (arith, c .before .before .before .copy .kept .0, c .before .before .before .before .before .before .before .pre))
+
 same-length : tie.Need-same-length
-same-length c = search needs
+same-length c = c .before .before .write-trailer .kept .0 ∙ simp length-set (c .before .before .before .before .before .before .copy .kept .0)
 
 returns : tie.Need-returns
 returns c =
-    let w = c .before .before .before .before .before .before in
-    let s = w .before .before .before in
-    c .before .before .copy .ensures ∙ put-whole _ _ (search needs)
-    ∙ w .write-trailer .ensures .1 ∙ laid-sealed _ _ (laid-front _ _ laid-zeros (s .args .me) (s .args .n) (s .args .cap))
+    let w = c .before .before in
+    let z = w .before .before .before .before in
+    let s = z .before .before .before .before in
+    let zeros = z .copy .ensures ∙ put-whole _ _ (search needs) in
+    w .write-trailer .ensures .1 ∙ laid-sealed _ _ (laid-front _ _ (laid-as zeros laid-zeros) (s .args .me) (s .args .n) (s .args .cap))
 
 pub store-fresh-spec : {M : Type 1} → statement M
 store-fresh-spec =
     tie.close
     (tie.spec
-    array-write-fresh
-    array-write-fresh-2
-    array-write-fresh-3
-    slice-aggregate-write-trailer
-    write-trailer-requires
     slice-aggregate-copy
     copy-requires
+    slice-write-s
+    slice-write-s-2
+    slice-write-s-3
+    write-trailer-requires
     same-length
     returns)

@@ -1,5 +1,5 @@
 -- The loop's total, with the rest of the bytes added by wrapping add, is that of all bytes. Assumes nothing.
-use Prim.Native.Nat.{_%_, _+_, _-_, _<_, _≤_}
+use Prim.Native.Nat.{_%_, _*_, _+_, _-_, _<_, _≤_}
 use mathlib.Core.Path.{_∙_, _≡_, sym}
 use native.Mathlib.Omega.{arith}
 use borrow.Author.Needs.{needs}
@@ -9,22 +9,25 @@ use Rattle.wire.proofs.checksum.Statement.{statement}
 use Rattle.wire.proofs.checksum.Tie as tie
 
 abbrev Inv-loop : tie.InvT-loop
-Inv-loop s acc₀ i₀ acc i = (i ≤ length s) × (acc < 65536) × (wrapped acc (drop i s) ≡ wrapped 0 s)
+Inv-loop s acc₀ weight₀ i₀ acc weight i = (i ≤ length s) × (acc < 65536) × (weight < 65536) × (wrapped acc weight (drop i s) ≡ wrapped 0 1 s)
 
 abbrev μ-loop : tie.MeasureT-loop
-μ-loop s acc₀ i₀ acc i = length s - i
+μ-loop s acc₀ weight₀ i₀ acc weight i = length s - i
 
 loop-holds : tie.Need-loop-holds Inv-loop μ-loop
 loop-holds c = search needs
 
-shared-slice-read-wide16 : tie.Need-shared-slice-read-wide16 Inv-loop μ-loop
-shared-slice-read-wide16 c = search needs
+shared-slice-read-weighed : tie.Need-shared-slice-read-weighed Inv-loop μ-loop
+shared-slice-read-weighed c = search needs
 
-wide16-requires : tie.Need-wide16-requires Inv-loop μ-loop
-wide16-requires c κs = search needs
+weighed-requires : tie.Need-weighed-requires Inv-loop μ-loop
+weighed-requires c κs = search needs
 
 wrapping-add-u16-requires : tie.Need-wrapping-add-u16-requires Inv-loop μ-loop
 wrapping-add-u16-requires c κs = search needs
+
+wrapping-add-u16-requires-2 : tie.Need-wrapping-add-u16-requires-2 Inv-loop μ-loop
+wrapping-add-u16-requires-2 c κs = search needs
 
 add-i : tie.Need-add-i Inv-loop μ-loop
 add-i c = search needs
@@ -34,19 +37,23 @@ loop-less c = search needs
 
 loop-again : tie.Need-loop-again Inv-loop μ-loop
 loop-again c =
-    let w = c .before .before .before .before in
+    let w = c .before .before .before .before .before in
     let s = w .before .before .args .s .now in
-    let sum : c .wrapping-add-u16 .result ≡ (w .loop .acc + getD s (w .loop .i) 0) % 65536 = omega arith in (
+    let acc = w .loop .acc in
+    let weight = w .loop .weight in
+    let sum : c .before .wrapping-add-u16 .result ≡ (acc + weight * getD s (w .loop .i) 0 % 65536) % 65536 = omega arith in
+    let next : c .wrapping-add-u162 .result ≡ (weight + 1) % 65536 = omega arith in (
       search needs,
       search needs,
-      rw sum (sym (wrapped-rest (w .loop .acc) s (w .loop .i) (search needs)) ∙ w .loop .inv .2),
+      search needs,
+      rw (sum, next) (sym (wrapped-rest acc weight s (w .loop .i) (search needs)) ∙ w .loop .inv .3),
     )
 
 returns : tie.Need-returns Inv-loop μ-loop
 returns c =
     let b = c .before in
     let s = b .before .before .args .s .now in
-    sym (wrapped-end (b .loop .acc) s (b .loop .i) (search needs) (search needs)) ∙ b .loop .inv .2 ∙ wrapped-checksum s
+    sym (wrapped-end (b .loop .acc) (b .loop .weight) s (b .loop .i) (search needs) (search needs)) ∙ b .loop .inv .3 ∙ wrapped-checksum s
 
 pub checksum-spec : {M : Type 1} → statement M
 checksum-spec =
@@ -55,9 +62,10 @@ checksum-spec =
     Inv-loop
     μ-loop
     loop-holds
-    shared-slice-read-wide16
-    wide16-requires
+    shared-slice-read-weighed
+    weighed-requires
     wrapping-add-u16-requires
+    wrapping-add-u16-requires-2
     add-i
     loop-less
     loop-again

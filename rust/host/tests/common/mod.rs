@@ -16,11 +16,21 @@ pub fn spelled(kind: u8, from: u8, to: u8, n: u8, cap: u8, entries: &[(u8, u8, u
     sealed(bytes)
 }
 
-/// Bytes with a right trailer behind them.
-pub fn sealed(mut bytes: Vec<u8>) -> Vec<u8> {
+/// Bytes with a right trailer behind them, in whose sum each byte counts one time more than its offset.
+pub fn sealed(bytes: Vec<u8>) -> Vec<u8> {
+    sealed_by(bytes, |offset| offset + 1)
+}
+
+/// Bytes with the trailer of an old plant behind them, in whose sum each byte counts once.
+pub fn sealed_as_before(bytes: Vec<u8>) -> Vec<u8> {
+    sealed_by(bytes, |_| 1)
+}
+
+/// Bytes with their count behind them, and the sum in which a byte counts as often as its offset says.
+fn sealed_by(mut bytes: Vec<u8>, times: fn(usize) -> usize) -> Vec<u8> {
     bytes.extend((bytes.len() as u16).to_le_bytes());
-    let sum = bytes.iter().fold(0, |sum: u16, byte| sum.wrapping_add(u16::from(*byte)));
-    bytes.extend(sum.to_le_bytes());
+    let sum: usize = bytes.iter().enumerate().map(|(offset, byte)| usize::from(*byte) * times(offset)).sum();
+    bytes.extend((sum as u16).to_le_bytes());
     bytes
 }
 

@@ -78,7 +78,7 @@ static void try_set_up(void)
 
 static void try_send(void)
 {
-    static const uint8_t frame[] = {1, 2, 1, 0, 5, 3, 4, 0, 'a', 'b', 'c', 'd', 'e', 13, 0, 12, 2};
+    static const uint8_t frame[] = {1, 2, 1, 0, 5, 3, 4, 0, 'a', 'b', 'c', 'd', 'e', 13, 0, 84, 22};
     static const uint8_t said[] = {0, 0, 0, 0, 0, 0, 0, 0, 0, sizeof frame, 0};
     uint8_t before[CAUSAL_IMAGE_BYTES];
 
@@ -139,7 +139,7 @@ static size_t sealed(uint8_t *frame, size_t length)
     frame[length] = (uint8_t)length;
     frame[length + 1] = 0;
     for (k = 0; k < length + 2; k++)
-        sum += frame[k];
+        sum += (unsigned)(k + 1) * frame[k];
     frame[length + 2] = (uint8_t)(sum & 0xFF);
     frame[length + 3] = (uint8_t)(sum >> 8);
     return length + 4;
