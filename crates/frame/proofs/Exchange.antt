@@ -16,8 +16,8 @@ use Rattle.wire.specs.Trailer.{hasTrailer}
 use Rattle.frame.specs.Exchange.{ExchangeMeets8}
 use Rattle.frame.specs.Refusals.{frameRefusal, wrongTrailer}
 
--- bytes that do not meet 8 meet it once two of them are exchanged in front of the sum
-pub exchange-8 : (s : List ℕ) → AllBytes s → wrongTrailer s ≡ false → (k : ℕ) → Unequal s k 2 → wrongTrailer (exchanged s k) ≡ true
+-- bytes that do not meet 8 meet it once two unequal neighbours are exchanged
+pub exchange-8 : (s : List ℕ) → AllBytes s → wrongTrailer s ≡ false → (k : ℕ) → Unequal s k → wrongTrailer (exchanged s k) ≡ true
 unfolding wrongTrailer
 exchange-8 s b e k u =
     let x = exchanged s k in

@@ -225,7 +225,7 @@ module _ (s : List ℕ) (h : SoundImage s) where
       ap sealed (sym (fields-back s (h .bytes) (omega (arith, kept .size))) ∙ ap (λ (k : ℕ). take k s) (sym front))
       ∙ sym (has-sealed s (h .bytes) (kept .trailer))
 
-  found : (k : ℕ) → Unequal s k 2 → badImage (exchanged s k) ≡ true
+  found : (k : ℕ) → Unequal s k → badImage (exchanged s k) ≡ true
   found k u =
       let x = exchanged s k in
       let wrong = exchangeBreaksTrailer s k (h .bytes) u (is-true (hasTrailer s) (kept .trailer)) in
@@ -239,5 +239,5 @@ imageLaws =
       read = read;
       spelled = spelled;
       one = λ s t a b e. sym (spelled s a) ∙ ap image e ∙ spelled t b;
-      exchanged = found;
+      exchange = found;
     }

@@ -26,7 +26,7 @@ fields (v ∷ l) = le32 v ++ fields l
 unfoldable pub recordFields : Record → List ℕ
 recordFields r = r .me ∷ r .n ∷ r .cap ∷ (fields (r .m) ++ (fields (r .deliv) ++ (r .held ∷ [])))
 
--- the image: the fields, the count 628, and the sum of the 630 bytes in front of it
+-- the image: the fields, the count 628, and the sum over the 630 bytes in front of it, each times one more than its offset
 unfoldable pub image : Record → List ℕ
 image r = sealed (recordFields r)
 
@@ -69,11 +69,11 @@ pub record SoundImage (s : List ℕ) : Type 0 where
 -- written: the image of a sound record is sound; back: and reads as that record
 -- read: the record of a sound image is sound; spelled: a sound image read and written again is the same bytes
 -- one: two sound images of one record are the same bytes
--- exchanged: a sound image with two unequal neighbours exchanged in front of its sum meets 20 (document 02, (ix))
+-- exchange: a sound image with any two unequal neighbours exchanged meets 20 (document 02, (ix))
 pub record ImageLaws : Type 0 where
   pub written : (r : Record) → SoundRecord r → SoundImage (image r)
   pub back : (r : Record) → SoundRecord r → recordIn (image r) ≡ r
   pub read : (s : List ℕ) → SoundImage s → SoundRecord (recordIn s)
   pub spelled : (s : List ℕ) → SoundImage s → image (recordIn s) ≡ s
   pub one : (s t : List ℕ) → SoundImage s → SoundImage t → recordIn s ≡ recordIn t → s ≡ t
-  pub exchanged : (s : List ℕ) → SoundImage s → (k : ℕ) → Unequal s k 2 → badImage (exchanged s k) ≡ true
+  pub exchange : (s : List ℕ) → SoundImage s → (k : ℕ) → Unequal s k → badImage (exchanged s k) ≡ true

@@ -1,6 +1,7 @@
 -- Worked examples of the host's calls, which pin the definitions: where 20 stands, and what is looked at for it; and one of exchanged neighbours.
 -- Assumes nothing.
 use mathlib.Core.List.{[]}
+use mathlib.Core.Logic.{inl}
 use mathlib.Core.Path.{_≡_, ap, refl}
 use native.Mathlib.Omega.{arith}
 use lib.ListN.{replicate}
@@ -50,4 +51,4 @@ exchanged-o : offerNumber (offerCall (fresh 1 3 3) (exchanged (thirteen 81) 7) e
 unfolding holdsOne
 exchanged-o =
     exchanges .frame (thirteen 81) 7 (small-bytes (thirteen 81) (omega arith)) (record { inside = omega arith; differ = λ e. omega arith })
-    .offer (fresh 1 3 3) empty (ap offerNumber (diamonds .held))
+    .offer (fresh 1 3 3) empty (inl (ap offerNumber (diamonds .held)))

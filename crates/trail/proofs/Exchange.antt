@@ -91,7 +91,7 @@ unfolding trailOf
 trail-append [] b = refl
 trail-append (f ∷ a) b = rw (trail-append a b, append-assoc f (trailOf a) (trailOf b))
 
-module _ (f : List ℕ) (k : ℕ) (b : AllBytes f) (e : unsound f ≡ false) (u : Unequal f k 2) where
+module _ (f : List ℕ) (k : ℕ) (b : AllBytes f) (e : unsound f ≡ false) (u : Unequal f k) where
   abbrev g : List ℕ
   g = exchanged f k
 

@@ -1,4 +1,5 @@
--- Examples, each by computation: a trail of five frames, its walk and windows, a trail that was cut, and refused frames and writes.
+-- Examples, each by computation: a trail of five frames, its walk and windows, a trail that was cut, refused frames and writes, and a frame whose exchanged
+-- count leads a walk astray.
 use Prim.Native.Nat.{ℕ}
 use mathlib.Core.Bool.{false, true}
 use mathlib.Core.List.{List, [], _∷_, _++_}
@@ -25,7 +26,8 @@ extraFrame = 2 ∷ 0 ∷ 1 ∷ 1 ∷ 0 ∷ 3 ∷ 3 ∷ 0 ∷ 2 ∷ 1 ∷ 1 ∷ 0
 abbrev pub fiveFrames : List (List ℕ)
 fiveFrames = userFrame 3 81 ∷ extraFrame ∷ userFrame 3 81 ∷ extraFrame ∷ extraFrame ∷ []
 
--- a user frame whose body holds the bytes of another, all but two: these are its last byte, 9, and the count's first, 35, if they are exchanged
+-- a user frame of 39 bytes. With its last body byte, 9, and its count's first byte, 35, exchanged it ends with another of 13: a header from byte 26 on, the
+-- body 35, the count 9; the bytes 209 make the sum that one's too
 abbrev pub lure : List ℕ
 lure = sealed (1 ∷ 0 ∷ 1 ∷ 0 ∷ 27 ∷ 3 ∷ 3 ∷ 0 ∷ 0 ∷ (replicate 17 209 ++ (1 ∷ 0 ∷ 1 ∷ 0 ∷ 1 ∷ 3 ∷ 3 ∷ 0 ∷ 9 ∷ [])))
 

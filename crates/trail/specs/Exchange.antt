@@ -14,7 +14,7 @@ use Rattle.trail.specs.Trails.{EachSound}
 use Rattle.trail.specs.Walk.{walk, walkCall}
 use Rattle.trail.specs.Write.{afterWrite, writeCall}
 
--- a sound frame f with two unequal neighbours exchanged in front of its sum
+-- a sound frame f with two unequal neighbours exchanged
 pub record ExchangeMeets19 (f : List ℕ) (k : ℕ) : Type 0 where
   -- it is not written on
   pub write : (file : List ℕ) (used : ℕ) → writeCall file used (exchanged f k) ≡ afterWrite (writeAnswer.Refused 19) file
@@ -27,4 +27,4 @@ pub record ExchangeMeets19 (f : List ℕ) (k : ℕ) : Type 0 where
       ≡ record { shown = placesBack (length before + length f) behind []; kinds = map extraBit behind; left = before ++ exchanged f k }
 
 abbrev pub ExchangesMeet19 : Type 0
-ExchangesMeet19 = (f : List ℕ) (k : ℕ) → AllBytes f → unsound f ≡ false → Unequal f k 2 → ExchangeMeets19 f k
+ExchangesMeet19 = (f : List ℕ) (k : ℕ) → AllBytes f → unsound f ≡ false → Unequal f k → ExchangeMeets19 f k

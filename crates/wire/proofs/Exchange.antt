@@ -3,15 +3,16 @@ use Prim.Native.Nat.{_*_, _+_, _-_, _≤_, suc, ℕ}
 use mathlib.Core.List.{List, [], _++_, _∷_}
 use mathlib.Core.Logic.{_≢_}
 use mathlib.Core.Path.{_∙_, _≡_, ap, sym}
+use native.Mathlib.Decide.{decLe}
 use native.Mathlib.Nat.{add-mul, add-zero, one-mul}
 use native.Mathlib.Omega.{arith}
 use lib.Dec.{not-T}
-use lib.ListN.{drop, getD, length, set, take, take-append-drop}
-use lib.Seq.{getD-set-other, getD-take, length-take-le, take-set-lt}
+use lib.ListN.{drop, getD, length, length-set, set, take, take-append-drop}
+use lib.Seq.{getD-set-other, getD-set-same, getD-take, length-take-le, take-set-le, take-set-lt}
 use Rattle.wire.proofs.Bytes.{bytes-take, length-put, put-eq, rest}
 use Rattle.wire.proofs.Tests.{is-false, of-true}
 use Rattle.wire.proofs.Trailer.{Trailed, trailed}
-use Rattle.wire.specs.Bytes.{put, u16At}
+use Rattle.wire.specs.Bytes.{AllBytes, put, u16At}
 use Rattle.wire.specs.Exchange.{ExchangeBreaksTrailer, ExchangeChangesSum, Unequal, exchanged}
 use Rattle.wire.specs.Trailer.{checksum, countBack, hasTrailer, sumBack, weighted}
 
@@ -54,6 +55,12 @@ take-exchanged m s k h =
       getD-take m s (k + 1) 0 (omega arith),
     )
 
+-- and a front that has neither stays
+take-stays : (m : ℕ) (s : List ℕ) (k : ℕ) → m ≤ k → take m (exchanged s k) ≡ take m s
+unfolding exchanged put
+take-stays m s k h =
+    take-set-le m (set s k (getD s (k + 1) 0)) (k + 1) (getD s k 0) (omega arith) ∙ take-set-le m s k (getD s (k + 1) 0) h
+
 -- two neighbours weigh by one more the byte that stands behind
 two-weighted : (w a b : ℕ) (t : List ℕ) → weighted w (a ∷ b ∷ t) ≡ w * a + w * b + b + weighted (w + 1 + 1) t
 two-weighted w a b t = rw (add-mul, one-mul) (omega arith)
@@ -86,24 +93,72 @@ pub count-stays : (s : List ℕ) (k : ℕ) → k + 2 + 4 ≤ length s → countB
 unfolding countBack
 count-stays s k h = rw (length-exchanged s k) (field-stays s k (length s - 4) (omega arith))
 
--- two unequal neighbours of a run are those of a front of it that has both
-unequal-front : (s : List ℕ) (k b : ℕ) → Unequal s k b → Unequal (take (length s - b) s) k 0
-unequal-front s k b u =
-    let m = length s - b in
-    let l : length (take m s) ≡ m = length-take-le m s (omega arith) in
-    record {
-      inside = omega (arith, l, u .inside);
-      differ = rw (getD-take m s k 0 (omega (arith, u .inside)), getD-take m s (k + 1) 0 (omega (arith, u .inside))) (u .differ);
-    }
+-- the two themselves
+pub exchanged-first : (s : List ℕ) (k : ℕ) → k + 2 ≤ length s → getD (exchanged s k) k 0 ≡ getD s (k + 1) 0
+unfolding exchanged put
+exchanged-first s k h =
+    getD-set-other (set s k (getD s (k + 1) 0)) (k + 1) k (getD s k 0) 0 (λ e. omega arith) ∙ getD-set-same s k (getD s (k + 1) 0) 0 (omega arith)
 
--- a right trailer before and after would have one sum over both
+pub exchanged-second : (s : List ℕ) (k : ℕ) → k + 2 ≤ length s → getD (exchanged s k) (k + 1) 0 ≡ getD s k 0
+unfolding exchanged put
+exchanged-second s k h = getD-set-same (set s k (getD s (k + 1) 0)) (k + 1) (getD s k 0) 0 (rw length-set (omega arith))
+
+-- both trailers right, before and after the exchange
+module _ (s : List ℕ) (k : ℕ) (a : AllBytes s) (u : Unequal s k) (b : Trailed s) (t : Trailed (exchanged s k)) where
+  abbrev m : ℕ
+  m = length s - 2
+
+  here : getD (exchanged s k) k 0 ≡ getD s (k + 1) 0
+  here = exchanged-first s k (u .inside)
+
+  next : getD (exchanged s k) (k + 1) 0 ≡ getD s k 0
+  next = exchanged-second s k (u .inside)
+
+  -- in front of the sum: one sum over both
+  in-front : k + 4 ≤ length s → ⊥
+  in-front h =
+      let l : length (take m s) ≡ m = length-take-le m s (omega arith) in
+      let front : take (length (exchanged s k) - 2) (exchanged s k) ≡ exchanged (take m s) k =
+      rw (length-exchanged s k) (take-exchanged m s k (omega arith)) in
+      let unequal : Unequal (take m s) k =
+      record { inside = omega (arith, l); differ = rw (getD-take m s k 0 (omega arith), getD-take m s (k + 1) 0 (omega arith)) (u .differ) } in
+      exchangeChangesSum (take m s) k (bytes-take m s a) unequal (ap checksum (sym front) ∙ sym (t .sum) ∙ sum-stays s k (omega arith) ∙ b .sum)
+
+  -- where count and sum meet: one count
+  at-seam : k + 3 ≡ length s → ⊥
+  unfolding countBack u16At
+  at-seam h =
+      let at : length s - 4 + 1 ≡ k = omega (arith, b .long) in
+      let same = exchanged-other s k (length s - 4) (λ e. omega (arith, b .long)) (λ e. omega (arith, b .long)) in
+      let before : getD s (length s - 4) 0 + 256 * getD s k 0 ≡ length s - 4 = rw (← at) (b .count) in
+      let after : getD (exchanged s k) (length s - 4) 0 + 256 * getD (exchanged s k) (length s - 4 + 1) 0 ≡ length s - 4 =
+      rw (← length-exchanged s k) (t .count) in
+      let moved = ap (λ (i : ℕ). getD (exchanged s k) i 0) at ∙ here in
+      u .differ (omega (arith, before, after, same, moved))
+
+  -- within the sum: one sum, of the same bytes
+  in-sum : k + 2 ≡ length s → ⊥
+  unfolding sumBack u16At
+  in-sum h =
+      let at : m ≡ k = omega arith in
+      let front : take (length (exchanged s k) - 2) (exchanged s k) ≡ take m s = rw (length-exchanged s k) (take-stays m s k (omega arith)) in
+      let before : getD s k 0 + 256 * getD s (k + 1) 0 ≡ checksum (take m s) = rw (← at) (b .sum) in
+      let after : getD (exchanged s k) m 0 + 256 * getD (exchanged s k) (m + 1) 0 ≡ checksum (take m s) =
+      rw (← front, ← length-exchanged s k) (t .sum) in
+      let moved = ap (λ (i : ℕ). getD (exchanged s k) i 0) at ∙ here in
+      let moved₂ = ap (λ (i : ℕ). getD (exchanged s k) (i + 1) 0) at ∙ next in
+      u .differ (omega (arith, before, after, moved, moved₂))
+
 pub exchangeBreaksTrailer : ExchangeBreaksTrailer
 exchangeBreaksTrailer s k a u e = is-false (hasTrailer (exchanged s k)) (not-T (hasTrailer (exchanged s k)) (λ t. both (trailed (exchanged s k) t)))
   where
+    right : Trailed s
+    right = trailed s (of-true (hasTrailer s) e)
+
     both : Trailed (exchanged s k) → ⊥
-    both t =
-        let m = length s - 2 in
-        let front : take (length (exchanged s k) - 2) (exchanged s k) ≡ exchanged (take m s) k =
-        rw (length-exchanged s k) (take-exchanged m s k (omega (arith, u .inside))) in
-        exchangeChangesSum (take m s) k (bytes-take m s a) (unequal-front s k 2 u)
-        (ap checksum (sym front) ∙ sym (t .sum) ∙ sum-stays s k (u .inside) ∙ trailed s (of-true (hasTrailer s) e) .sum)
+    both t = go (decLe (k + 4) (length s)) (decLe (k + 3) (length s))
+      where
+        go : Dec (k + 4 ≤ length s) → Dec (k + 3 ≤ length s) → ⊥
+        go (yes h) d = in-front s k a u right t h
+        go (no h) (yes i) = at-seam s k a u right t (omega arith)
+        go (no h) (no i) = in-sum s k a u right t (omega (arith, u .inside))

@@ -26,7 +26,7 @@ weighed-mod w b =
     ap (λ (k : ℕ). k * b) (sym (mod-add-div w 65536)) ∙ rw (add-mul, mul-assoc) in
     rw parts (sym (add-mul-mod-self-left (w % 65536 * b) 65536 (w / 65536 * b)))
 
--- it is the list's sum modulo 65,536, by the one lemma between the code's total and the definition
+-- it is the list's sum modulo 65,536; wrapped-checksum, below, is the one lemma that the code's proof cites
 from : (acc w : ℕ) (s : List ℕ) → acc < 65536 → wrapped acc (w % 65536) s ≡ (acc + weighted w s) % 65536
 unfolding wrapped
 from acc w [] h = omega arith

@@ -12,15 +12,16 @@ use Rattle.wire.specs.Trailer.{checksum, hasTrailer}
 unfoldable pub exchanged : List ℕ → ℕ → List ℕ
 exchanged s k = put s k (getD s (k + 1) 0 ∷ getD s k 0 ∷ [])
 
--- the neighbours at places k and k + 1 of s are unequal, and at least so many bytes stand behind them
-pub record Unequal (s : List ℕ) (k behind : ℕ) : Type 0 where
-  pub inside : k + 2 + behind ≤ length s
+-- the bytes at places k and k + 1 of s are two unequal neighbours
+pub record Unequal (s : List ℕ) (k : ℕ) : Type 0 where
+  pub inside : k + 2 ≤ length s
   pub differ : getD s k 0 ≢ getD s (k + 1) 0
 
 -- two unequal neighbours exchanged always change the sum, whatever the bytes and wherever the two stand
 abbrev pub ExchangeChangesSum : Type 0
-ExchangeChangesSum = (s : List ℕ) (k : ℕ) → AllBytes s → Unequal s k 0 → checksum (exchanged s k) ≢ checksum s
+ExchangeChangesSum = (s : List ℕ) (k : ℕ) → AllBytes s → Unequal s k → checksum (exchanged s k) ≢ checksum s
 
--- so a right trailer is wrong once two unequal neighbours in front of the sum are exchanged, bytes of the count among them
+-- so a right trailer is wrong once any two are exchanged: in front of the sum, the count's bytes among them, by that law; where the two meet, the count
+-- is another; and within the sum, the sum is
 abbrev pub ExchangeBreaksTrailer : Type 0
-ExchangeBreaksTrailer = (s : List ℕ) (k : ℕ) → AllBytes s → Unequal s k 2 → hasTrailer s ≡ true → hasTrailer (exchanged s k) ≡ false
+ExchangeBreaksTrailer = (s : List ℕ) (k : ℕ) → AllBytes s → Unequal s k → hasTrailer s ≡ true → hasTrailer (exchanged s k) ≡ false

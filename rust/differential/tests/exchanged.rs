@@ -101,7 +101,8 @@ fn kind_of(frame: &[u8]) -> &'static str {
     }
 }
 
-/// What the neighbours at a place of bytes that end with a sum are.
+/// What the neighbours at a place of bytes that end with a sum are: unequal ones at the sum make the count another, or
+/// the sum.
 fn class_of(bytes: &[u8], place: usize) -> &'static str {
     match (places(bytes).contains(&place), bytes[place] == bytes[place + 1]) {
         (_, true) => "equal",
@@ -110,7 +111,7 @@ fn class_of(bytes: &[u8], place: usize) -> &'static str {
     }
 }
 
-/// The classes of places, the last of which is all but always one of two places of each run of bytes.
+/// The classes of places with the least count of each; "at the sum" are the last two places of a run of bytes.
 fn classes(unequal: usize) -> [(&'static str, usize); 3] {
     [("unequal", unequal), ("equal", unequal / 4), ("at the sum", 2)]
 }
@@ -128,9 +129,8 @@ fn at_every_place_of_an_offered_frame() {
             let outcome = offer(&state, &exchanged(&frame, place));
             let class = class_of(&frame, place);
             match class {
-                "unequal" => assert_eq!(outcome.answer.number(), 8, "place {place} of {frame:?}"),
                 "equal" => assert_eq!(outcome, taken),
-                _ => (),
+                _ => assert_eq!(outcome.answer.number(), 8, "place {place} of {frame:?}"),
             }
             met.add(kind_of(&frame), class);
         }
@@ -161,9 +161,8 @@ fn at_every_place_of_a_held_frame() {
             let outcomes = calls_with_shelf(&image, &other, &frame);
             let class = class_of(&held, place);
             match class {
-                "unequal" => assert_eq!(outcomes.map(|outcome| outcome.answer.number()), [4; 2], "place {place}"),
                 "equal" => assert_eq!(outcomes, sound),
-                _ => (),
+                _ => assert_eq!(outcomes.map(|outcome| outcome.answer.number()), [4; 2], "place {place}"),
             }
             met.add(kind_of(&held), class);
         }
@@ -182,9 +181,8 @@ fn at_every_place_of_an_image() {
             let outcomes = calls(&state, &exchanged(&image, place), ANSWER);
             let class = class_of(&image, place);
             match class {
-                "unequal" => assert_eq!(outcomes.map(|outcome| outcome.answer.number()), [20; 3], "place {place}"),
                 "equal" => assert_eq!(outcomes, taken),
-                _ => (),
+                _ => assert_eq!(outcomes.map(|outcome| outcome.answer.number()), [20; 3], "place {place}"),
             }
             met.add("an image", class);
         }
@@ -211,9 +209,19 @@ fn trails(seed: u64, count: usize) -> Vec<Vec<Vec<u8>>> {
     all
 }
 
+/// What the last byte of a trail's frame, at a place, and the next frame's first are.
+fn class_between(file: &[u8], place: usize) -> &'static str {
+    if file[place] == file[place + 1] {
+        "equal"
+    } else {
+        "between two frames"
+    }
+}
+
 /// Exchanges neighbours at every place of a trail's frame, and its last byte with the next frame's first: of unequal ones
-/// in front of its sum, the walk shows the frames behind it and then refuses with 19. (Where a byte of the count is one of
-/// them, a walk may also show what was never written, below; in none of these trails it does.)
+/// the walk is refused with 19. In front of the sum it shows the frames behind it first (where a byte of the count is one
+/// of them, a walk may also show what was never written, below; in none of these trails it does); between two frames the
+/// next one is bad.
 fn try_frame(met: &mut Met, frames: &[Vec<u8>], index: usize) {
     let (file, frame) = (frames.concat(), &frames[index]);
     let whole = walk(&file, 1);
@@ -222,12 +230,14 @@ fn try_frame(met: &mut Met, frames: &[Vec<u8>], index: usize) {
     let of = if behind.is_empty() { "the last frame" } else { "an earlier frame" };
     for place in 0..frame.len() - usize::from(behind.is_empty()) {
         let walked = walk(&exchanged(&file, start + place), 1 + place % 64);
-        let class = if place + 1 < frame.len() { class_of(frame, place) } else { "between two frames" };
-        match class {
-            "unequal" => assert_eq!(walked, Walked { shown: behind.clone(), most: Err(19) }, "place {place}"),
-            "equal" => assert_eq!((walked.shown, walked.most.is_ok()), (whole.shown.clone(), true), "place {place}"),
-            _ => (),
-        }
+        let class = if place + 1 < frame.len() { class_of(frame, place) } else { class_between(&file, start + place) };
+        let (shown, most) = match class {
+            "unequal" => (behind.clone(), Err(19)),
+            "equal" => (whole.shown.clone(), walked.most.clone()),
+            "at the sum" => (walked.shown.clone(), Err(19)),
+            _ => (behind[..behind.len() - 1].to_vec(), Err(19)),
+        };
+        assert_eq!((class == "equal", walked.clone()), (walked.most.is_ok(), Walked { shown, most }), "place {place}");
         met.add(of, class);
     }
 }
@@ -244,7 +254,7 @@ fn at_every_place_of_a_trail() {
 
 #[test]
 fn a_walk_led_astray_by_its_count_is_refused_all_the_same() {
-    // The body's last 9 bytes are a frame's but for its body, which is the count's first byte, if 9 and that are exchanged.
+    // From byte 26 on stand a header and 9; exchanged with the count's first byte, 35, they read as a frame of 13 bytes.
     let body = [&[0; 1][..], &[209; 17], &[1, 0, 1, 0, 1, 3, 3, 0, 9]].concat();
     let frame = Draft { kind: USER, from: 0, to: 1, n: 3, cap: 3, zero: 0, entries: vec![], body }.bytes();
     assert_eq!(walk(&frame, 1), Walked { shown: vec![(0, 39)], most: Ok(0) });

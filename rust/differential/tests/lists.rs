@@ -48,8 +48,9 @@ fn check_ceilings(ceilings: &Ceilings) {
     assert_eq!((none.extras(), no_more.extras()), (0, 0));
 }
 
-/// Shelves starved until 15 and 16 are held, offers at wrong nodes and of frames with neighbours exchanged, refused calls beside the list's own, full matrices,
-/// sends of each group by each class that may and by no other, and each way to go on were met.
+/// Shelves starved until 15 and 16 are held, offers at wrong nodes and of frames with neighbours exchanged, refused calls
+/// beside the list's own, full matrices, sends of each group by each class that may and by no other, and each way to go on
+/// were met.
 fn check_reached(reached: Reached) {
     assert!(reached.fifteen_held > 0 && reached.sixteen_held > 0, "{reached:?}");
     assert!(reached.refused_at_fifteen > 0 && reached.refused_at_sixteen > 0, "{reached:?}");

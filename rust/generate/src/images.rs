@@ -141,7 +141,7 @@ pub fn resized(random: &mut Random, image: &Image, length: usize, sealed: bool) 
     if sealed && random.once_in(2) {
         repair(&mut bytes);
     } else if sealed && length >= IMAGE {
-        // The trailer of 628 bytes, at the end of more, at times with the sum of all in front of it.
+        // The trailer of 628 bytes, at the end of more, at times with the right sum over all in front of it.
         let trailer = trailer_of(&image[..FIELDS]);
         bytes[length - trailer.len()..].copy_from_slice(&trailer);
         if random.once_in(2) {

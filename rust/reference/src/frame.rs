@@ -192,7 +192,7 @@ fn has_sound_parties(bytes: &[u8], n: u8, cap: u8) -> bool {
     bytes[5] == n && bytes[6] == cap && from < n && to < n && from != to
 }
 
-/// The byte count in front of the trailer, then the sum of all bytes before the sum, the two of the count among them.
+/// The byte count in front of the trailer, then the sum over all bytes before the sum, the two of the count among them.
 pub fn trailer_of(front: &[u8]) -> [u8; TRAILER] {
     let count = (front.len() as u16).to_le_bytes();
     let sum = sum_of(front.iter().chain(&count)).to_le_bytes();

@@ -143,7 +143,7 @@ fn exchanged_neighbours_in_a_frame_are_8() {
     }
 }
 
-/// Of one changed byte the sum sees everything but the highest bit of a byte that counts a multiple of 512 times.
+/// Of one changed byte in 800 the sum sees everything but the highest bit of the one that counts 512 times.
 #[test]
 fn one_changed_byte_is_seen_but_for_the_highest_bit_at_offset_511() {
     let bytes = Random::new(73).bytes(800);
