@@ -39,7 +39,7 @@ stands-kept n h p a k = record { column = omega (arith, k .column); value = λ e
 
 pub readable : (s : List ℕ) (h : Header) → CheckedFrame s → h ≡ header s → Readable s h
 readable s h c e =
-    let k = passes-kept (c .n) (c .cap) s (c .passes) in
+    let k = passes-kept (c .n) s (c .passes) in
     let l = entriesFrom s 0 (header s .e) in
     let each = each-kept (c .n) (header s) l (k .each) in
     rw e

@@ -5,10 +5,9 @@ use mathlib.Core.List.{List}
 use Rattle.wire.specs.Limits.{maxNodes}
 use Rattle.frame.specs.Refusals.{frameRefusal}
 
--- the bytes s have passed 8 to 11 for some n that is at most 12 and some cap, whichever: a function that only reads them needs no more.
--- (A record that has passed check 2 has such an n and cap.)
+-- the bytes s have passed 8 to 11 for some n that is at most 12, whichever: a function that only reads them needs no more.
+-- (A record that has passed check 2 has such an n.)
 pub record CheckedFrame (s : List ℕ) : Type 0 where
   pub n : ℕ
-  pub cap : ℕ
   pub few : n ≤ maxNodes
-  pub passes : frameRefusal n cap s ≡ 0
+  pub passes : frameRefusal n s ≡ 0

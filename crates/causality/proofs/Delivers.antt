@@ -72,10 +72,10 @@ learn-bare : (k : Kind) (d : MessageNode) (e : Matrix) (p : ℕ) (f : Message) �
 learn-bare user d e p f a = trim-bare 12 (d .me) (d .n) (d .cap) (merge (d .me) (d .matrix) e) p f a
 learn-bare extra d e p f a = absurd (at-none p f a)
 
-module _ (n cap : ℕ) (w : messages.World) (g : Good n (λ i. cap) w) (few : length (w .history) < 1000000000) (bodies : Bodies w) (i : ℕ) (hi : i < n) where
+module _ (n : ℕ) (caps : ℕ → ℕ) (w : messages.World) (g : Good n caps w) (few : length (w .history) < 1000000000) (bodies : Bodies w) (i : ℕ) (hi : i < n) where
   -- the node
   abbrev d : MessageNode
-  d = nodeAt n (λ k. cap) w i
+  d = nodeAt n caps w i
 
   -- its record
   abbrev r : Record
@@ -108,7 +108,7 @@ module _ (n cap : ℕ) (w : messages.World) (g : Good n (λ i. cap) w) (few : le
       let y : k - 1 ≡ x .0 = omega (arith, x .1) in
       record {
         node = refl;
-        queue = ap₂ (λ (z : ℕ) (l : List (List ℕ)). laid (without z l)) y (frames-back n cap w g few bodies i hi) ∙ ap laid (sym (x .2));
+        queue = ap₂ (λ (z : ℕ) (l : List (List ℕ)). laid (without z l)) y (frames-back n caps w g few bodies i hi) ∙ ap laid (sym (x .2));
         answer = record { acceptance = refl; names = refl; taken = refl; given = refl; extras = refl; users = refl; expected = inl refl };
         frames = issued-frames out ((learn (m .kind) d (m .entries)) .extras) (omega (arith, learn-room (m .kind) d (m .entries)));
         bodies = λ p f a. subst AllBytes (sym (learn-bare (m .kind) d (m .entries) p f a)) (small-bytes [] tt);
@@ -125,20 +125,20 @@ module _ (n cap : ℕ) (w : messages.World) (g : Good n (λ i. cap) w) (few : le
       let o : protocol.Outcome = deliver (nodeOf r (heldMessages (length (w .nodes i .held)) q)) in
       let t₄ : AfterDeliver = cond (wrongQueue (nodeOf r []) (length (w .nodes i .held)) q) (refuseDeliver 4 r q out body) (settle out body o) in
       let last : protocol.Outcome = conclude d (search (deliverable d) (w .nodes i .held)) in
-      let e : deliver d ≡ last = cond-no (atLimit d) (protocol.refuse 5 d) last (below-limit n (λ k. cap) w g few i) in
+      let e : deliver d ≡ last = cond-no (atLimit d) (protocol.refuse 5 d) last (below-limit n caps w g few i) in
       subst (Left (deliver d))
-      (sym (cond-no (brokenRecord r) (refuseDeliver 2 r q out body) (cond (short out body) (refuseDeliver 3 r q out body) t₄) (record-kept n cap w g few i hi)
+      (sym (cond-no (brokenRecord r) (refuseDeliver 2 r q out body) (cond (short out body) (refuseDeliver 3 r q out body) t₄) (record-kept n caps w g few i hi)
       ∙ cond-no (short out body) (refuseDeliver 3 r q out body) t₄ long
       ∙ cond-no (wrongQueue (nodeOf r []) (length (w .nodes i .held)) q) (refuseDeliver 4 r q out body) (settle out body o)
-      (queue-passes n cap w g few bodies i hi)
-      ∙ ap (λ (z : MessageNode). settle out body (deliver z)) (whole-back n cap w g few bodies i hi)))
+      (queue-passes n caps w g few bodies i hi)
+      ∙ ap (λ (z : MessageNode). settle out body (deliver z)) (whole-back n caps w g few bodies i hi)))
       (subst (λ (o : protocol.Outcome). Left o (settle out body o)) (sym e) (settled out body h (search (deliverable d) (w .nodes i .held)) refl))
     where
       long : T (not (short out body))
       long =
           not-or (ltb (length out) outSize || ltb (length body) maxBody) (not (eqb (length q) queueSize))
           (not-or (ltb (length out) outSize) (ltb (length body) maxBody) (le→nltb (length out) outSize h) (le→nltb (length body) maxBody k))
-          (T-not-not (eqb (length q) queueSize) (eq→eqb (length q) queueSize (queue-length n cap w g few bodies i hi)))
+          (T-not-not (eqb (length q) queueSize) (eq→eqb (length q) queueSize (queue-length n caps w g few bodies i hi)))
 
   -- one that is lent less
   pub deliver-short : (out body : List ℕ) → T (ltb (length out) outSize || ltb (length body) maxBody) → deliverCall r q out body ≡ refuseDeliver 3 r q out body
@@ -146,6 +146,6 @@ module _ (n cap : ℕ) (w : messages.World) (g : Good n (λ i. cap) w) (few : le
   deliver-short out body h =
       let o : protocol.Outcome = deliver (nodeOf r (heldMessages (length (w .nodes i .held)) q)) in
       let t₄ : AfterDeliver = cond (wrongQueue (nodeOf r []) (length (w .nodes i .held)) q) (refuseDeliver 4 r q out body) (settle out body o) in
-      cond-no (brokenRecord r) (refuseDeliver 2 r q out body) (cond (short out body) (refuseDeliver 3 r q out body) t₄) (record-kept n cap w g few i hi)
+      cond-no (brokenRecord r) (refuseDeliver 2 r q out body) (cond (short out body) (refuseDeliver 3 r q out body) t₄) (record-kept n caps w g few i hi)
       ∙ cond-yes (short out body) (refuseDeliver 3 r q out body) t₄
       (either-T (ltb (length out) outSize || ltb (length body) maxBody) (not (eqb (length q) queueSize)) (inl h))

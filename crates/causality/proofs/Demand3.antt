@@ -20,7 +20,7 @@ use Rattle.causality.specs.FrameSizes.{FrameSizes}
 use Rattle.causality.specs.ListRefusals.{ListRefusals}
 use Rattle.causality.specs.Rights.{RightsKept}
 use Rattle.causality.specs.EachDestination.{EachDestination, EarliestThere, Progress}
-use Rattle.matrix.specs.Message.{InRange}
+use Rattle.matrix.specs.Message.{EachInRange}
 use Rattle.protocol.proofs.Accepting.{run-once, start-once}
 use Rattle.protocol.proofs.Ceiling.{run-reported, start-reported}
 use Rattle.protocol.proofs.Good.{Good}
@@ -31,87 +31,87 @@ use Rattle.protocol.proofs.Demand3 as proved
 use Rattle.protocol.specs.Demand3 as stated
 
 -- a list of steps
-module _ (n cap : ℕ) (inside : InRange n cap) (steps : List Step) (bytes : BodiesOfBytes steps) (short : length steps < 1000000000) where
+module _ (n : ℕ) (caps : ℕ → ℕ) (inside : EachInRange n caps) (steps : List Step) (bytes : BodiesOfBytes steps) (short : length steps < 1000000000) where
   -- its world, its list of steps on messages, and the world of that
   abbrev b : World
-  b = run n (start n cap) steps
+  b = run n (start n caps) steps
 
   abbrev l : List messages.Step
   l = map forget steps
 
   abbrev w : messages.World
-  w = messages.run n (messages.start n (λ i. cap)) l
+  w = messages.run n (messages.start n caps) l
 
-  good-start : Good n (λ i. cap) (messages.start n (λ i. cap))
-  good-start = start-good n (λ i. cap) (λ k h. inside)
+  good-start : Good n caps (messages.start n caps)
+  good-start = start-good n caps inside
 
-  g : Good n (λ i. cap) w
-  g = run-good n (λ i. cap) (messages.start n (λ i. cap)) l good-start
+  g : Good n caps w
+  g = run-good n caps (messages.start n caps) l good-start
 
   few : length (w .history) < 1000000000
-  few = omega (arith, run-length n (messages.start n (λ i. cap)) l, length-map steps forget)
+  few = omega (arith, run-length n (messages.start n caps) l, length-map steps forget)
 
   m : Matches n w b
-  m = run-matches n cap steps bytes (messages.start n (λ i. cap)) (start n cap) good-start (omega arith) (start-matches n cap inside)
+  m = run-matches n caps steps bytes (messages.start n caps) (start n caps) good-start (omega arith) (start-matches n caps inside)
 
-  t : stated.Demand3For n (λ i. cap) w
-  t = proved.demand3 n cap inside l (omega (arith, length-map steps forget))
+  t : stated.Demand3For n caps w
+  t = proved.demand3 n caps inside l (omega (arith, length-map steps forget))
 
   progress : Progress b
-  progress = record { accepts = accepts n cap w b g few m t; delivers = delivers-new n cap w b g few m t }
+  progress = record { accepts = accepts n caps w b g few m t; delivers = delivers-new n caps w b g few m t }
 
   -- the earliest of all is the earliest to its destination
   first-there : (p : ℕ) (x : Issue) → Earliest b p x → EarliestThere b p x
   first-there p x e = record { at = e .at; undelivered = e .undelivered; earlier = λ q h l a _. e .earlier q h l a }
 
-  world-demand3 : Demand3For n cap b
+  world-demand3 : Demand3For n caps b
   world-demand3 = record {
-    causal = causal n cap w b g few m t;
-    once = once n cap w b g few m t;
-    distinct = distinct n cap w b g few m t;
-    kept = kept n cap w b g few m t;
-    carried = carried n cap w b g few m t;
-    exists = exists n cap w b g few m t;
+    causal = causal n caps w b g few m t;
+    once = once n caps w b g few m t;
+    distinct = distinct n caps w b g few m t;
+    kept = kept n caps w b g few m t;
+    carried = carried n caps w b g few m t;
+    exists = exists n caps w b g few m t;
     accepts = λ p x e. progress .accepts p x (first-there p x e);
     delivers = λ p x e. progress .delivers p x (first-there p x e);
-    agrees = held-agrees n cap w b g few m t;
+    agrees = held-agrees n caps w b g few m t;
   }
 
 pub demand3 : Demand3
-demand3 n cap inside steps bytes short = world-demand3 n cap inside steps bytes short
+demand3 n caps inside steps bytes short = world-demand3 n caps inside steps bytes short
 
 pub listRefusals : ListRefusals
-listRefusals n cap inside steps bytes short =
-    list-refusals n (w n cap inside steps bytes short) (b n cap inside steps bytes short) (m n cap inside steps bytes short)
+listRefusals n caps inside steps bytes short =
+    list-refusals n (w n caps inside steps bytes short) (b n caps inside steps bytes short) (m n caps inside steps bytes short)
 
 -- no frame is accepted twice
 pub acceptedOnce : AcceptedOnce
-acceptedOnce n cap inside steps bytes short =
-    accepted-once n (w n cap inside steps bytes short) (b n cap inside steps bytes short) (m n cap inside steps bytes short)
-    (run-once n (λ i. cap) (messages.start n (λ i. cap)) (l n cap inside steps bytes short) (good-start n cap inside steps bytes short)
-    (start-once n (λ i. cap)))
+acceptedOnce n caps inside steps bytes short =
+    accepted-once n (w n caps inside steps bytes short) (b n caps inside steps bytes short) (m n caps inside steps bytes short)
+    (run-once n caps (messages.start n caps) (l n caps inside steps bytes short) (good-start n caps inside steps bytes short)
+    (start-once n caps))
 
 -- who may say what
 pub rightsKept : RightsKept
-rightsKept n cap inside steps bytes short =
-    rights-for n cap (w n cap inside steps bytes short) (b n cap inside steps bytes short) (g n cap inside steps bytes short) (few n cap inside steps bytes short)
-    (m n cap inside steps bytes short)
-    (run-senders n (λ i. cap) (messages.start n (λ i. cap)) (l n cap inside steps bytes short) (good-start n cap inside steps bytes short)
-    (start-senders n (λ i. cap)))
+rightsKept n caps inside steps bytes short =
+    rights-for n caps (w n caps inside steps bytes short) (b n caps inside steps bytes short) (g n caps inside steps bytes short) (few n caps inside steps bytes short)
+    (m n caps inside steps bytes short)
+    (run-senders n caps (messages.start n caps) (l n caps inside steps bytes short) (good-start n caps inside steps bytes short)
+    (start-senders n caps))
 
 -- the ceiling on extra frames
 pub ceiling : Ceiling
-ceiling n cap inside steps bytes short =
-    ceiling-for n (λ i. cap) (w n cap inside steps bytes short) (b n cap inside steps bytes short) (m n cap inside steps bytes short)
-    (run-reported n (λ i. cap) (messages.start n (λ i. cap)) (l n cap inside steps bytes short) (good-start n cap inside steps bytes short)
-    (start-reported n (λ i. cap)))
+ceiling n caps inside steps bytes short =
+    ceiling-for n caps (w n caps inside steps bytes short) (b n caps inside steps bytes short) (m n caps inside steps bytes short)
+    (run-reported n caps (messages.start n caps) (l n caps inside steps bytes short) (good-start n caps inside steps bytes short)
+    (start-reported n caps))
 
 -- how long frames are
 pub frameSizes : FrameSizes
-frameSizes n cap inside steps bytes short =
-    frame-sizes-for n cap (w n cap inside steps bytes short) (b n cap inside steps bytes short) (g n cap inside steps bytes short) (few n cap inside steps bytes short)
-    (m n cap inside steps bytes short)
+frameSizes n caps inside steps bytes short =
+    frame-sizes-for n caps (w n caps inside steps bytes short) (b n caps inside steps bytes short) (g n caps inside steps bytes short) (few n caps inside steps bytes short)
+    (m n caps inside steps bytes short)
 
 -- its last part, for each destination
 pub each-destination : EachDestination
-each-destination n cap inside steps bytes short = progress n cap inside steps bytes short
+each-destination n caps inside steps bytes short = progress n caps inside steps bytes short

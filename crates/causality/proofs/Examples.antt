@@ -1,10 +1,11 @@
 -- The definitions, run on bytes: the mission's story with what the theorem says of it,
 -- an extra frame issued and delivered, two messages in opposite orders, and refusals.
-use Prim.Native.Nat.{_<_, ℕ}
-use mathlib.Core.Bool.{Bool, false, true}
+use Prim.Native.Nat.{_<_, suc, zero, ℕ}
+use mathlib.Core.Bool.{Bool, cond, false, true}
 use mathlib.Core.List.{List, [], _∷_, map}
 use mathlib.Core.Path.{_≡_, refl}
 use native.Mathlib.Omega.{arith}
+use lib.Dec.{eqb}
 use lib.ListN.{drop, replicate}
 use Rattle.arrival.specs.View.{arrivalRefusal}
 use Rattle.causality.proofs.Demand3.{ceiling, demand3, rightsKept}
@@ -22,7 +23,7 @@ use Rattle.holdback.specs.WrongQueue.{heldRefused, sameBytes, someAlike, someRe
 use Rattle.holdback.specs.Slots.{frameIn, heldFrames, padded, slots, without, zeros}
 use Rattle.matrix.specs.Array.{entry, flat}
 use Rattle.matrix.specs.Matrix.{clear, columnCount, count, fullest, merge, only}
-use Rattle.matrix.specs.Message.{InRange, number}
+use Rattle.matrix.specs.Message.{EachInRange, number}
 use Rattle.node.specs.Calls.{deliverCall, offerCall, sendCall}
 use Rattle.node.specs.Sizes.{outSize}
 use Rattle.node.specs.Record.{brokenRecord}
@@ -53,9 +54,13 @@ out = replicate outSize 0
 abbrev text : List ℕ
 text = replicate 64 0
 
--- the world of a list of three nodes with cap 3, its answers, and the frames that it issued
+-- the archive, node 2, has memory for a cap of 9, the others have 3
+abbrev pub caps : ℕ → ℕ
+caps i = cond (eqb i 2) 9 3
+
+-- the world of a list of three nodes with these caps, its answers, and the frames that it issued
 abbrev pub after : List Step → World
-after l = run 3 (start 3 3) l
+after l = run 3 (start 3 caps) l
 
 abbrev answers : List Step → List Answer
 answers l = map (λ (e : Event). e .answer) (after l .history)
@@ -164,16 +169,19 @@ pub story-before : HappenedBefore (after story .log) (after story .history) 0 4
 story-before = rw (story-frames, story-events) before-report
 
 -- the theorem speaks of it
-range : InRange 3 3
-range = record { atLeast2 = omega arith; atMost12 = omega arith; capFrom = omega arith; capTo = omega arith }
+pub range : EachInRange 3 caps
+range zero h = record { atLeast2 = omega arith; atMost12 = omega arith; capFrom = omega arith; capTo = omega arith }
+range (suc zero) h = record { atLeast2 = omega arith; atMost12 = omega arith; capFrom = omega arith; capTo = omega arith }
+range (suc (suc zero)) h = record { atLeast2 = omega arith; atMost12 = omega arith; capFrom = omega arith; capTo = omega arith }
+range (suc (suc (suc i))) h = absurd (omega arith)
 
 pub story-bodies : BodiesOfBytes story
 unfolding story
 story-bodies = (small-bytes closing (omega arith), (small-bytes closed (omega arith), (small-bytes report (omega arith), tt)))
 
-pub story-demand3 : Demand3For 3 3 (after story)
+pub story-demand3 : Demand3For 3 caps (after story)
 unfolding story
-story-demand3 = demand3 3 3 range story story-bodies (omega arith)
+story-demand3 = demand3 3 caps range story story-bodies (omega arith)
 
 -- and says that "closing", which came before the report, is delivered before it
 pub story-order : (t : ℕ) × (t < 9) × DeliveredAt (after story .history) t closingFrame
@@ -185,7 +193,7 @@ story-order =
 -- who may say what: "closing" is of the motion group, so whoever sent it did so as a mover
 pub story-rights : RightsFor 3 (after story)
 unfolding story
-story-rights = rightsKept 3 3 range story story-bodies (omega arith)
+story-rights = rightsKept 3 caps range story story-bodies (omega arith)
 
 pub story-mover : (class : ℕ) → SentBy (after story) (issuedBy 0 closingFrame) class → class ≡ mover
 unfolding header decode entriesFrom entryAt u32At matrixOf group
@@ -238,9 +246,9 @@ tie-bodies : BodiesOfBytes tie
 unfolding tie
 tie-bodies = let none = small-bytes [] tt in (none, (none, (none, (none, (none, (none, tt))))))
 
-pub tie-ceiling : CeilingFor 3 (λ i. 3) (after tie)
+pub tie-ceiling : CeilingFor 3 caps (after tie)
 unfolding tie
-tie-ceiling = ceiling 3 3 range tie tie-bodies (omega arith)
+tie-ceiling = ceiling 3 caps range tie tie-bodies (omega arith)
 
 tie-sums : map (λ (f : Answer → ℕ). sumOver f (after tie .history)) (extras ∷ usersIssued ∷ usersDelivered ∷ []) ≡ 1 ∷ 6 ∷ 4 ∷ []
 unfolding tie step setUp inRange cutFor sendCall offerCall deliverCall brokenRecord brokenRules zeroDiagonal zeroColumn withinLimit zeroFrom count columnCount
@@ -267,7 +275,7 @@ opposite =
     ∷ delivers 3 out text
     ∷ []
 
-opposite-answers : map (λ (e : Event). e .answer) (run 4 (start 4 4) opposite .history)
+opposite-answers : map (λ (e : Event). e .answer) (run 4 (start 4 (λ i. 4)) opposite .history)
     ≡ wrote 12 ∷ wrote 18 ∷ wrote 12 ∷ wrote 18
     ∷ holds 1 true ∷ gets 1 0 1 1 0 0 0 ∷ holds 1 true ∷ gets 1 1 1 1 0 0 0
     ∷ holds 1 true ∷ gets 1 1 1 1 0 0 0 ∷ holds 1 true ∷ gets 1 0 1 1 0 0 0 ∷ []

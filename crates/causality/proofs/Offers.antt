@@ -47,10 +47,10 @@ case d m c =
     (λ t _. absurd (T-not (claimsTooMuch d m) c t)) (λ _ e. refuses 14 tt (inr (inr (inl refl))) e) (λ _ e. refuses 15 tt (inr (inr (inr (inl refl)))) e)
     (λ _ e. refuses 16 tt (inr (inr (inr (inr (inl refl))))) e) (λ _ _ _ _ e. accepts e) refl
 
-module _ (n cap : ℕ) (w : messages.World) (g : Good n (λ i. cap) w) (few : length (w .history) < 1000000000) (bodies : Bodies w) (i : ℕ) (hi : i < n) where
+module _ (n : ℕ) (caps : ℕ → ℕ) (w : messages.World) (g : Good n caps w) (few : length (w .history) < 1000000000) (bodies : Bodies w) (i : ℕ) (hi : i < n) where
   -- the node
   abbrev d : MessageNode
-  d = nodeAt n (λ k. cap) w i
+  d = nodeAt n caps w i
 
   -- its record
   abbrev r : Record
@@ -63,21 +63,21 @@ module _ (n cap : ℕ) (w : messages.World) (g : Good n (λ i. cap) w) (few : le
   -- the node is read back from record and queue
   pub whole-back : nodeOf r (heldMessages (length (w .nodes i .held)) q) ≡ d
   whole-back =
-      node-back n cap w g few i hi (heldMessages (length (w .nodes i .held)) q)
+      node-back n caps w g few i hi (heldMessages (length (w .nodes i .held)) q)
       ∙ ap (λ (l : List Message). record {
         me = i;
         n = n;
-        cap = cap;
+        cap = caps i;
         matrix = w .nodes i .matrix;
         deliv = w .nodes i .deliv;
         held = l;
-      }) (messages-back n cap w g few bodies i hi)
+      }) (messages-back n caps w g few bodies i hi)
 
   -- check 4 is not met
   pub queue-passes : T (not (wrongQueue (nodeOf r []) (length (w .nodes i .held)) q))
   queue-passes =
       subst (λ (z : MessageNode). T (not (wrongQueue z (length (w .nodes i .held)) q)))
-      (sym (node-back n cap w g few i hi [])) (queue-here n cap w g few bodies i hi)
+      (sym (node-back n caps w g few i hi [])) (queue-here n caps w g few bodies i hi)
 
   -- what an offer leaves
   abbrev Left : protocol.Outcome → AfterOffer → Type 0
@@ -98,7 +98,7 @@ module _ (n cap : ℕ) (w : messages.World) (g : Good n (λ i. cap) w) (few : le
       (record {
         node = refl;
         queue =
-            ap (λ (l : List (List ℕ)). laid (l ++ (encode m ∷ []))) (frames-back n cap w g few bodies i hi)
+            ap (λ (l : List (List ℕ)). laid (l ++ (encode m ∷ []))) (frames-back n caps w g few bodies i hi)
             ∙ ap laid (sym (map-append encode (w .nodes i .held) (m ∷ [])));
         answer = record { acceptance = refl; names = refl; taken = refl; given = refl; extras = refl; users = refl; expected = inl refl };
         frames = cut-nothing [];
@@ -111,14 +111,14 @@ module _ (n cap : ℕ) (w : messages.World) (g : Good n (λ i. cap) w) (few : le
   offer-agrees p f at =
       let s : List ℕ = encode (f .message) in
       let o : protocol.Outcome = offer (nodeOf r (heldMessages (length (w .nodes i .held)) q)) (decode s) in
-      let t₈ : AfterOffer = cond (not (eqb (frameRefusal n cap s) 0)) (refuseOffer (frameRefusal n cap s) r q) (settle s o) in
+      let t₈ : AfterOffer = cond (not (eqb (frameRefusal n s) 0)) (refuseOffer (frameRefusal n s) r q) (settle s o) in
       let t₄ : AfterOffer = cond (wrongQueue (nodeOf r []) (length (w .nodes i .held)) q) (refuseOffer 4 r q) t₈ in
       subst (Left (offer d (f .message)))
-      (sym (cond-no (brokenRecord r) (refuseOffer 2 r q) (cond (not (eqb (length q) queueSize)) (refuseOffer 3 r q) t₄) (record-kept n cap w g few i hi)
+      (sym (cond-no (brokenRecord r) (refuseOffer 2 r q) (cond (not (eqb (length q) queueSize)) (refuseOffer 3 r q) t₄) (record-kept n caps w g few i hi)
       ∙ cond-no (not (eqb (length q) queueSize)) (refuseOffer 3 r q) t₄
-      (T-not-not (eqb (length q) queueSize) (eq→eqb (length q) queueSize (queue-length n cap w g few bodies i hi)))
+      (T-not-not (eqb (length q) queueSize) (eq→eqb (length q) queueSize (queue-length n caps w g few bodies i hi)))
       ∙ cond-no (wrongQueue (nodeOf r []) (length (w .nodes i .held)) q) (refuseOffer 4 r q) t₈ queue-passes
-      ∙ cond-no (not (eqb (frameRefusal n cap s) 0)) (refuseOffer (frameRefusal n cap s) r q) (settle s o)
-      (T-not-not (eqb (frameRefusal n cap s) 0) (eq→eqb (frameRefusal n cap s) 0 (frame-passes n cap w g few bodies p f at)))
-      ∙ ap₂ (λ (z : MessageNode) (m : Message). settle s (offer z m)) whole-back (decode-encode (f .message) (sound-issue n cap w g few bodies p f at))))
-      (settled (f .message) (case d (f .message) (claims-little n (λ k. cap) w g p f at i)))
+      ∙ cond-no (not (eqb (frameRefusal n s) 0)) (refuseOffer (frameRefusal n s) r q) (settle s o)
+      (T-not-not (eqb (frameRefusal n s) 0) (eq→eqb (frameRefusal n s) 0 (frame-passes n caps w g few bodies p f at)))
+      ∙ ap₂ (λ (z : MessageNode) (m : Message). settle s (offer z m)) whole-back (decode-encode (f .message) (sound-issue n caps w g few bodies p f at))))
+      (settled (f .message) (case d (f .message) (claims-little n caps w g p f at i)))

@@ -4,7 +4,7 @@ use mathlib.Core.Path.{_∙_, _≡_, ap, subst, sym}
 use lib.ListN.{length}
 use Rattle.causality.proofs.Matches.{Matches, encodeIssue}
 use Rattle.causality.proofs.Queues.{sound-issue}
-use Rattle.causality.proofs.Reading.{before-back, count-encode, delivered-back, delivered-there, from-encode}
+use Rattle.causality.proofs.Reading.{before-back, cap-encode, count-encode, delivered-back, delivered-there, from-encode}
 use Rattle.causality.proofs.Reading.{issue-back, number-encode, to-encode, user-kind}
 use Rattle.causality.proofs.Records.{matrix-back}
 use Rattle.causality.specs.Demand3.{CarriesFew, DeliveredAt, HappenedBefore, Issue, IssueAt, User, World, destination}
@@ -19,11 +19,11 @@ use Rattle.protocol.specs.World as messages
 use Rattle.protocol.specs.Demand3 as stated
 use Rattle.node.specs.declared.Node.{Node as Record}
 
-module _ (n cap : ℕ) (w : messages.World) (b : World) (g : Good n (λ i. cap) w) (few : length (w .history) < 1000000000) (m : Matches n w b)
-    (t : stated.Demand3For n (λ i. cap) w) where
+module _ (n : ℕ) (caps : ℕ → ℕ) (w : messages.World) (b : World) (g : Good n caps w) (few : length (w .history) < 1000000000) (m : Matches n w b)
+    (t : stated.Demand3For n caps w) where
   -- issued messages are sound
   sound : (p : ℕ) (f : messages.Issue) → messages.IssueAt w p f → Sound (f .message)
-  sound p f at = sound-issue n cap w g few (m .bodies) p f at
+  sound p f at = sound-issue n caps w g few (m .bodies) p f at
 
   pub causal : (p q u : ℕ) (x y : Issue) → IssueAt b p x → IssueAt b q y → User (x .frame) → User (y .frame) → destination (x .frame) ≡ destination (y .frame)
       → HappenedBefore (b .log) (b .history) (x .step) (y .step) → DeliveredAt (b .history) u (y .frame)
@@ -71,16 +71,17 @@ module _ (n cap : ℕ) (w : messages.World) (b : World) (g : Good n (λ i. cap) 
       go : (f : messages.Issue) × messages.IssueAt w p f × (encodeIssue f ≡ x) → (h : messages.Issue) × messages.IssueAt w q h × (encodeIssue h ≡ y) → Goal x y
       go f h = subst (λ (z : Issue). Goal z y) (f .2) (subst (λ (z : Issue). Goal (encodeIssue (f .0)) z) (h .2) (here (f .0) (h .0) (f .1) (h .1)))
 
-  pub kept : (i : ℕ) → i < n → count (entry (b .records i .m)) ≤ cap
+  pub kept : (i : ℕ) → i < n → count (entry (b .records i .m)) ≤ caps i
   kept i h =
-      let e : entry (b .records i .m) ≡ w .nodes i .matrix = ap (λ (r : Record). entry (r .m)) (m .records i h) ∙ matrix-back n cap w g few i h in
-      subst (λ (z : Matrix). count z ≤ cap) (sym e) (t .kept i h)
+      let e : entry (b .records i .m) ≡ w .nodes i .matrix = ap (λ (r : Record). entry (r .m)) (m .records i h) ∙ matrix-back n caps w g few i h in
+      subst (λ (z : Matrix). count z ≤ caps i) (sym e) (t .kept i h)
 
-  pub carried : (p : ℕ) (x : Issue) → IssueAt b p x → CarriesFew cap (x .frame)
+  pub carried : (p : ℕ) (x : Issue) → IssueAt b p x → CarriesFew (caps (header (x .frame) .from)) (x .frame)
   carried p x a =
       let f = issue-back n w b m sound p x a in
-      subst (λ (z : Issue). CarriesFew cap (z .frame)) (f .2)
+      subst (λ (z : Issue). CarriesFew (caps (header (z .frame) .from)) (z .frame)) (f .2)
       (record {
-        e = rw count-encode (t .carried p (f .0) (f .1));
-        matrix = subst (λ (z : Message). count (z .entries) ≤ cap) (sym (decode-encode (f .0 .message) (sound p (f .0) (f .1)))) (t .carried p (f .0) (f .1));
+        own = rw (from-encode (f .0 .message)) (cap-encode (f .0 .message) ∙ g .sound p (f .0) (f .1) .capped);
+        e = rw (from-encode (f .0 .message), count-encode) (t .carried p (f .0) (f .1));
+        matrix = rw (from-encode (f .0 .message)) (subst (λ (z : Message). count (z .entries) ≤ caps (f .0 .message .from)) (sym (decode-encode (f .0 .message) (sound p (f .0) (f .1)))) (t .carried p (f .0) (f .1)));
       })

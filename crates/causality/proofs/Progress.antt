@@ -35,11 +35,11 @@ use Rattle.protocol.specs.Deliver.{deliver}
 use Rattle.protocol.specs.Node.{Node as MessageNode}
 use Rattle.node.specs.declared.Node.{Node as Record}
 
-module _ (n cap : ℕ) (w : messages.World) (b : World) (g : Good n (λ i. cap) w) (few : length (w .history) < 1000000000) (m : Matches n w b)
-    (t : stated.Demand3For n (λ i. cap) w) where
+module _ (n : ℕ) (caps : ℕ → ℕ) (w : messages.World) (b : World) (g : Good n caps w) (few : length (w .history) < 1000000000) (m : Matches n w b)
+    (t : stated.Demand3For n caps w) where
   -- issued messages are sound
   sound : (p : ℕ) (f : messages.Issue) → messages.IssueAt w p f → Sound (f .message)
-  sound p f at = sound-issue n cap w g few (m .bodies) p f at
+  sound p f at = sound-issue n caps w g few (m .bodies) p f at
 
   pub exists : (p : ℕ) (x : Issue) → IssueAt b p x → ¬ Delivered b (x .frame) → (q : ℕ) × (h : Issue) × Earliest b q h
   exists p x a =
@@ -49,8 +49,8 @@ module _ (n cap : ℕ) (w : messages.World) (b : World) (g : Good n (λ i. cap) 
       (r .0, encodeIssue (r .1), earliest-there n w b m sound (r .0) (r .1) (r .2)))
 
   -- the node that a message goes to
-  same-node : (i : ℕ) → i < n → w .nodes i ≡ nodeAt n (λ k. cap) w i
-  same-node i h = node-eq n (λ k. cap) w g i h
+  same-node : (i : ℕ) → i < n → w .nodes i ≡ nodeAt n caps w i
+  same-node i h = node-eq n caps w g i h
 
   -- the earliest undelivered frame to its destination is that of the earliest such message
   module _ (p : ℕ) (f : messages.Issue) (at : messages.IssueAt w p f) (e : EarliestThere b p (encodeIssue f)) where
@@ -79,11 +79,11 @@ module _ (n cap : ℕ) (w : messages.World) (b : World) (g : Good n (λ i. cap) 
           let hi : i < n = g .sound p f at .to in
           let r : heldAt b i < maxHeld = subst (λ (j : ℕ). heldAt b j < maxHeld) (to-encode (f .message)) room in
           let r′ : stated.heldAt w i < maxHeld = subst (λ (k : ℕ). k < maxHeld) (same-held n w b m sound i) r in
-          let a : protocol.accepted ((offer (w .nodes i) (f .message)) .answer) ≡ true = accepts-first n (λ k. cap) w g few p f at (undelivered p f at e)
+          let a : protocol.accepted ((offer (w .nodes i) (f .message)) .answer) ≡ true = accepts-first n caps w g few p f at (undelivered p f at e)
           (first p f at e) (λ h. away (held-there n w b m sound p (f .message) (sound p f at) h)) r′ in
-          let a′ : protocol.accepted ((offer (nodeAt n (λ k. cap) w i) (f .message)) .answer) ≡ true
+          let a′ : protocol.accepted ((offer (nodeAt n caps w i) (f .message)) .answer) ≡ true
           = subst (λ (d : MessageNode). protocol.accepted ((offer d (f .message)) .answer) ≡ true) (same-node i hi) a in
-          let k : eqb (offering (encodeIssue f) i) 0 ≡ true = offered-here n cap w b g few m i hi p f at .answer .acceptance ∙ a′ in
+          let k : eqb (offering (encodeIssue f) i) 0 ≡ true = offered-here n caps w b g few m i hi p f at .answer .acceptance ∙ a′ in
           subst (λ (j : ℕ). offering (encodeIssue f) j ≡ 0) (sym (to-encode (f .message)))
           (eqb→eq (offering (encodeIssue f) i) 0 (of-true (eqb (offering (encodeIssue f) i) 0) k))
 
@@ -101,7 +101,7 @@ module _ (n cap : ℕ) (w : messages.World) (b : World) (g : Good n (λ i. cap) 
       here f at e c =
           let i : ℕ = f .message .to in
           let hi : i < n = g .sound p f at .to in
-          let r = delivers-first n (λ k. cap) w g few p f at (undelivered p f at e) (first p f at e) (turn c) in
+          let r = delivers-first n caps w g few p f at (undelivered p f at e) (first p f at e) (turn c) in
           let s : Sound (r .issue .message) = sound (r .place) (r .issue) (r .at) in
           subst (DeliversNew b) (sym (to-encode (f .message)))
           (record {
@@ -110,7 +110,7 @@ module _ (n cap : ℕ) (w : messages.World) (b : World) (g : Good n (λ i. cap) 
             at = issue-there n w b m sound (r .place) (r .issue) (r .at);
             here = to-encode (r .issue .message) ∙ r .here;
             new = λ d. r .new (some-back n w b m sound (r .issue .message) s d);
-            answers = λ out body h k. given-here n cap w b g few m i hi out body h k .answer .names
+            answers = λ out body h k. given-here n caps w b g few m i hi out body h k .answer .names
                 ∙ ap named (subst (λ (d : MessageNode). protocol.delivery ((deliver d) .answer) ≡ some (protocol.label (r .issue .message)))
                 (same-node i hi) (r .answers))
                 ∙ ap (λ (z : Label). some z) (sym (label-encode (r .issue .message) s));
@@ -132,7 +132,7 @@ module _ (n cap : ℕ) (w : messages.World) (b : World) (g : Good n (λ i. cap) 
 
     queued-frames : queued b j ≡ map encode heldThere
     queued-frames =
-        ap₂ (λ (r : Record) (q : List ℕ). heldFrames (r .held) q) (m .records j hj) (m .queues j hj) ∙ frames-back n cap w g few (m .bodies) j hj
+        ap₂ (λ (r : Record) (q : List ℕ). heldFrames (r .held) q) (m .records j hj) (m .queues j hj) ∙ frames-back n caps w g few (m .bodies) j hj
 
     held-message : (h : ℕ) (s : List ℕ) → getElem? (queued b j) h ≡ some s → (f : Message) × (getElem? heldThere h ≡ some f) × (encode f ≡ s)
     held-message h s a = map-at encode heldThere h s (ap (λ (l : List (List ℕ)). getElem? l h) (sym queued-frames) ∙ a)
@@ -156,7 +156,7 @@ module _ (n cap : ℕ) (w : messages.World) (b : World) (g : Good n (λ i. cap) 
               ap encode (r .3) ∙ f .2,
               ap destination (sym (f .2)) ∙ to-encode (f .0) ∙ r .4,
               subst (λ (z : List ℕ). Held b (r .0) z) (f .2)
-                  (held-there n w b m sound (r .0) (f .0) (held-sound n cap w g few (m .bodies) j hj h (f .0) (f .1)) (r .5)),
+                  (held-there n w b m sound (r .0) (f .0) (held-sound n caps w g few (m .bodies) j hj h (f .0) (f .1)) (r .5)),
             )
 
         all : (p : ℕ) (x : Issue) → IssueAt b p x → destination (x .frame) ≡ j → Held b p (x .frame) → (h : ℕ) × (getElem? (queued b j) h ≡ some (x .frame))
@@ -171,6 +171,6 @@ module _ (n cap : ℕ) (w : messages.World) (b : World) (g : Good n (λ i. cap) 
         apart h k s a c =
             let f = held-message h s a in
             let f′ = held-message k s c in
-            let e : f′ .0 ≡ f .0 = sym (decode-encode (f′ .0) (held-sound n cap w g few (m .bodies) j hj k (f′ .0) (f′ .1))) ∙ ap decode (f′ .2 ∙ sym (f .2))
-            ∙ decode-encode (f .0) (held-sound n cap w g few (m .bodies) j hj h (f .0) (f .1)) in
+            let e : f′ .0 ≡ f .0 = sym (decode-encode (f′ .0) (held-sound n caps w g few (m .bodies) j hj k (f′ .0) (f′ .1))) ∙ ap decode (f′ .2 ∙ sym (f .2))
+            ∙ decode-encode (f .0) (held-sound n caps w g few (m .bodies) j hj h (f .0) (f .1)) in
             t .queue j hj .apart h k (f .0) (f .1) (f′ .1 ∙ ap (λ (z : Message). some z) e)

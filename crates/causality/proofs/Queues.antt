@@ -42,16 +42,15 @@ abbrev pub Bodies : messages.World → Type 0
 Bodies w = (p : ℕ) (f : messages.Issue) → messages.IssueAt w p f → AllBytes (f .message .body)
 
 -- issued messages
-module _ (n cap : ℕ) (w : messages.World) (g : Good n (λ i. cap) w) (few : length (w .history) < 1000000000) (bodies : Bodies w) where
+module _ (n : ℕ) (caps : ℕ → ℕ) (w : messages.World) (g : Good n caps w) (few : length (w .history) < 1000000000) (bodies : Bodies w) where
   pub sound-issue : (p : ℕ) (f : messages.Issue) → messages.IssueAt w p f → Sound (f .message)
-  sound-issue p f at = issue-sound n (λ i. cap) w g few p f at (bodies p f at)
+  sound-issue p f at = issue-sound n caps w g few p f at (bodies p f at)
 
   -- 8 to 11 are not met
-  pub frame-passes : (p : ℕ) (f : messages.Issue) → messages.IssueAt w p f → frameRefusal n cap (encode (f .message)) ≡ 0
+  pub frame-passes : (p : ℕ) (f : messages.Issue) → messages.IssueAt w p f → frameRefusal n (encode (f .message)) ≡ 0
   frame-passes p f at =
       let s = g .sound p f at in
-      subst (λ (k : ℕ). frameRefusal k cap (encode (f .message)) ≡ 0) (s .sized)
-      (subst (λ (c : ℕ). frameRefusal (f .message .n) c (encode (f .message)) ≡ 0) (s .capped) (encode-sound (f .message) (sound-issue p f at) .passes))
+      subst (λ (k : ℕ). frameRefusal k (encode (f .message)) ≡ 0) (s .sized) (encode-sound (f .message) (sound-issue p f at) .passes)
 
   -- node i
   module _ (i : ℕ) (hi : i < n) where
@@ -70,16 +69,16 @@ module _ (n cap : ℕ) (w : messages.World) (g : Good n (λ i. cap) w) (few : le
     pub held-sound : EachAt Sound heldHere
     held-sound h m a = let o = origin h m a in subst Sound (o .message) (sound-issue (o .issue) (o .g) (o .logged))
 
-    held-passes : (h : ℕ) (m : Message) → getElem? heldHere h ≡ some m → frameRefusal n cap (encode m) ≡ 0
+    held-passes : (h : ℕ) (m : Message) → getElem? heldHere h ≡ some m → frameRefusal n (encode m) ≡ 0
     held-passes h m a =
         let o = origin h m a in
-        subst (λ (z : Message). frameRefusal n cap (encode z) ≡ 0) (o .message) (frame-passes (o .issue) (o .g) (o .logged))
+        subst (λ (z : Message). frameRefusal n (encode z) ≡ 0) (o .message) (frame-passes (o .issue) (o .g) (o .logged))
 
     -- 12 to 14 are not met
-    held-arrives : (h : ℕ) (m : Message) → getElem? heldHere h ≡ some m → arrivalRefusal (alone n cap w g few i hi) m ≡ 0
+    held-arrives : (h : ℕ) (m : Message) → getElem? heldHere h ≡ some m → arrivalRefusal (alone n caps w g few i hi) m ≡ 0
     held-arrives h m a =
         let o = origin h m a in
-        arrives-back (alone n cap w g few i hi) m
+        arrives-back (alone n caps w g few i hi) m
         record {
           here = g .node i hi .queue .to h m a;
           claims =
@@ -89,17 +88,17 @@ module _ (n cap : ℕ) (w : messages.World) (g : Good n (λ i. cap) w) (few : le
         }
 
     -- a held frame would meet none of 8 to 14
-    frames-kept : EachFrame (FrameKept (alone n cap w g few i hi)) (map encode heldHere)
+    frames-kept : EachFrame (FrameKept (alone n caps w g few i hi)) (map encode heldHere)
     frames-kept h s a =
         let x = map-at encode heldHere h s a in
-        let d : MessageNode = alone n cap w g few i hi in
+        let d : MessageNode = alone n caps w g few i hi in
         subst (FrameKept d) (x .2) (record {
           passes = held-passes h (x .0) (x .1);
           arrives = ap (arrivalRefusal d) (decode-encode (x .0) (held-sound h (x .0) (x .1))) ∙ held-arrives h (x .0) (x .1);
         })
 
     framed : EachFramed (map encode heldHere)
-    framed = framed-all (alone n cap w g few i hi) (map encode heldHere) frames-kept
+    framed = framed-all (alone n caps w g few i hi) (map encode heldHere) frames-kept
 
     room : length (map encode heldHere) ≤ 16
     room = omega (arith, length-map heldHere encode, g .node i hi .queue .room)
@@ -115,9 +114,9 @@ module _ (n cap : ℕ) (w : messages.World) (g : Good n (λ i. cap) w) (few : le
     queue-length = length-slots 16 (map encode heldHere) (framed-fits (map encode heldHere) framed)
 
     -- check 4 is not met
-    pub queue-here : T (not (wrongQueue (alone n cap w g few i hi) (length heldHere) queueHere))
+    pub queue-here : T (not (wrongQueue (alone n caps w g few i hi) (length heldHere) queueHere))
     queue-here =
-        let d : MessageNode = alone n cap w g few i hi in
+        let d : MessageNode = alone n caps w g few i hi in
         of-false (wrongQueue d (length heldHere) queueHere)
         (subst (λ (k : ℕ). wrongQueue d k queueHere ≡ false) (length-map heldHere encode)
         (queue-right d (map encode heldHere) room frames-kept (subst Apart (sym (decode-all heldHere held-sound)) (g .node i hi .queue .distinct))))

@@ -32,6 +32,10 @@ pub from-encode : (m : Message) → header (encode m) .from ≡ m .from
 unfolding headerOf
 from-encode m = ap (λ (h : Header). h .from) (header-encode m)
 
+pub cap-encode : (m : Message) → header (encode m) .cap ≡ m .cap
+unfolding headerOf
+cap-encode m = ap (λ (h : Header). h .cap) (header-encode m)
+
 pub kind-encode : (m : Message) → header (encode m) .kind ≡ kindByte (m .kind)
 unfolding headerOf
 kind-encode m = ap (λ (h : Header). h .kind) (header-encode m)

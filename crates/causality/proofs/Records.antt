@@ -33,12 +33,12 @@ pub in-range : (me n cap : ℕ) → me < n → InRange n cap → Ranged me n cap
 in-range me n cap h r = record { atLeast2 = r .atLeast2; atMost12 = r .atMost12; below = h; capFrom = r .capFrom; capTo = r .capTo }
 
 -- node i of a good world
-module _ (n cap : ℕ) (w : messages.World) (g : Good n (λ i. cap) w) (few : length (w .history) < 1000000000) (i : ℕ) (hi : i < n) where
+module _ (n : ℕ) (caps : ℕ → ℕ) (w : messages.World) (g : Good n caps w) (few : length (w .history) < 1000000000) (i : ℕ) (hi : i < n) where
   -- the node keeps its rules
-  sound-node : SoundNode n cap (w .log) (w .history) i (w .nodes i)
+  sound-node : SoundNode n (caps i) (w .log) (w .history) i (w .nodes i)
   sound-node = g .node i hi
 
-  pub range : InRange n cap
+  pub range : InRange n (caps i)
   range = g .range i hi
 
   -- the matrix is read back from its array
@@ -68,20 +68,20 @@ module _ (n cap : ℕ) (w : messages.World) (g : Good n (λ i. cap) w) (few : le
 
   -- the node without its queue
   abbrev pub alone : MessageNode
-  alone = record { me = i; n = n; cap = cap; matrix = w .nodes i .matrix; deliv = w .nodes i .deliv; held = [] }
+  alone = record { me = i; n = n; cap = caps i; matrix = w .nodes i .matrix; deliv = w .nodes i .deliv; held = [] }
 
   -- the node of its record and any queue
   pub node-back : (l : List Message)
-      → nodeOf (recordOf (nodeAt n (λ k. cap) w i)) l ≡ record { me = i; n = n; cap = cap; matrix = w .nodes i .matrix; deliv = w .nodes i .deliv; held = l }
-  node-back l = λ z. record { me = i; n = n; cap = cap; matrix = matrix-back z; deliv = vector-back z; held = l }
+      → nodeOf (recordOf (nodeAt n caps w i)) l ≡ record { me = i; n = n; cap = caps i; matrix = w .nodes i .matrix; deliv = w .nodes i .deliv; held = l }
+  node-back l = λ z. record { me = i; n = n; cap = caps i; matrix = matrix-back z; deliv = vector-back z; held = l }
 
   -- check 2 is not met
-  pub record-kept : T (not (brokenRecord (recordOf (nodeAt n (λ k. cap) w i))))
+  pub record-kept : T (not (brokenRecord (recordOf (nodeAt n caps w i))))
   unfolding brokenRecord
   record-kept =
-      of-false (brokenRules i n cap (entry (flat M)) (vector (listFrom 0 12 D)) k)
-      (subst (λ (v : ℕ → ℕ). brokenRules i n cap (entry (flat M)) v k ≡ false) (sym vector-back)
-      (subst (λ (m : Matrix). brokenRules i n cap m D k ≡ false) (sym matrix-back) (rules-kept i n cap M D k kept)))
+      of-false (brokenRules i n (caps i) (entry (flat M)) (vector (listFrom 0 12 D)) k)
+      (subst (λ (v : ℕ → ℕ). brokenRules i n (caps i) (entry (flat M)) v k ≡ false) (sym vector-back)
+      (subst (λ (m : Matrix). brokenRules i n (caps i) m D k ≡ false) (sym matrix-back) (rules-kept i n (caps i) M D k kept)))
     where
       M : Matrix
       M = w .nodes i .matrix
@@ -92,14 +92,14 @@ module _ (n cap : ℕ) (w : messages.World) (g : Good n (λ i. cap) w) (few : le
       k : ℕ
       k = length (w .nodes i .held)
 
-      kept : Unbroken i n cap (w .nodes i .matrix) (w .nodes i .deliv) (length (w .nodes i .held))
+      kept : Unbroken i n (caps i) (w .nodes i .matrix) (w .nodes i .deliv) (length (w .nodes i .held))
       kept = record {
-        range = in-range i n cap hi range;
+        range = in-range i n (caps i) hi range;
         rules = sound-node .rules;
         few = sound-node .few;
         own = deliv-own;
-        limit = λ x y. omega (arith, matrix-bound (stateOf w) (g .invariant) i x y, row-below n (λ k. cap) w g few x y);
-        vectorLimit = λ x _. omega (arith, g .invariant .delivBound i x, row-below n (λ k. cap) w g few x i);
+        limit = λ x y. omega (arith, matrix-bound (stateOf w) (g .invariant) i x y, row-below n caps w g few x y);
+        vectorLimit = λ x _. omega (arith, g .invariant .delivBound i x, row-below n caps w g few x i);
         vectorZero = λ x _ h. deliv-from x h;
         room = sound-node .queue .room;
       }

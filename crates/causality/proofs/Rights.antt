@@ -32,11 +32,11 @@ use Rattle.rights.specs.Rights.{lacksRight}
 use Rattle.rights.specs.Topics.{groupOf}
 use Rattle.wire.proofs.Tests.{cond-elim, is-false}
 
-module _ (n cap : ℕ) (w : messages.World) (b : World) (g : Good n (λ i. cap) w) (few : length (w .history) < 1000000000)
+module _ (n : ℕ) (caps : ℕ → ℕ) (w : messages.World) (b : World) (g : Good n caps w) (few : length (w .history) < 1000000000)
     (m : Matches n w b) (senders : Senders w) where
   -- a message of the log and its frame
   body-encode : (p : ℕ) (f : messages.Issue) → messages.IssueAt w p f → bodyCarried (encodeIssue f .frame) ≡ f .message .body
-  body-encode p f at = ap (λ (x : Message). x .body) (decode-encode (f .message) (sound-issue n cap w g few (m .bodies) p f at))
+  body-encode p f at = ap (λ (x : Message). x .body) (decode-encode (f .message) (sound-issue n caps w g few (m .bodies) p f at))
 
   -- the send of a user frame, by a class that has the right to its body
   pub record Sender (h : Issue) : Type 0 where
@@ -64,7 +64,7 @@ module _ (n cap : ℕ) (w : messages.World) (b : World) (g : Good n (λ i. cap) 
 
   sender : (p : ℕ) (h : Issue) → IssueAt b p h → User (h .frame) → Sender h
   sender p h at u =
-      let x = issue-back n w b m (sound-issue n cap w g few (m .bodies)) p h at in
+      let x = issue-back n w b m (sound-issue n caps w g few (m .bodies)) p h at in
       subst Sender (x .2) (sender-of p (x .0) (x .1) (subst (λ (z : Issue). User (z .frame)) (sym (x .2)) u))
 
   -- the step that issued a frame has one class
@@ -83,13 +83,13 @@ module _ (n cap : ℕ) (w : messages.World) (b : World) (g : Good n (λ i. cap) 
   number : (i to class : ℕ) (body out : List ℕ) → Sendable n i to body out
       → sendNumber (sendCall (b .records i) to class body out .result .answer) ≡ cond (lacksRight ours class body) 21 0
   number i to class body out s =
-      let r : Record = recordOf (nodeAt n (λ k. cap) w i) in
-      let back : nodeOf r [] ≡ record { me = i; n = n; cap = cap; matrix = w .nodes i .matrix; deliv = w .nodes i .deliv; held = [] }
-      = node-back n cap w g few i (s .node) [] in
-      ap (λ (x : Record). sendNumber (sendCall x to class body out .result .answer)) (m .records i (s .node) ∙ ap recordOf (node-eq n (λ k. cap) w g i (s .node)))
+      let r : Record = recordOf (nodeAt n caps w i) in
+      let back : nodeOf r [] ≡ record { me = i; n = n; cap = caps i; matrix = w .nodes i .matrix; deliv = w .nodes i .deliv; held = [] }
+      = node-back n caps w g few i (s .node) [] in
+      ap (λ (x : Record). sendNumber (sendCall x to class body out .result .answer)) (m .records i (s .node) ∙ ap recordOf (node-eq n caps w g i (s .node)))
       ∙ send-number r to class body out
-      ∙ send-last r to class body (length out) (is-false (brokenRecord r) (record-kept n cap w g few i (s .node))) (s .long)
-      (ap atLimit back ∙ is-false (atLimit _) (free n cap w g few (m .bodies) i (s .node) []))
+      ∙ send-last r to class body (length out) (is-false (brokenRecord r) (record-kept n caps w g few i (s .node))) (s .long)
+      (ap atLimit back ∙ is-false (atLimit _) (free n caps w g few (m .bodies) i (s .node) []))
       (ap (λ (d : MessageNode). badDestination d to) back ∙ to-other i n to (s .other) (s .below)) (s .short)
 
   pub rights-for : RightsFor n b
@@ -111,12 +111,12 @@ module _ (n cap : ℕ) (w : messages.World) (b : World) (g : Good n (λ i. cap) 
 
       kinds : (p : ℕ) (h : Issue) → IssueAt b p h → User (h .frame) ⊎ Extra (h .frame)
       kinds p h at =
-          let x = issue-back n w b m (sound-issue n cap w g few (m .bodies)) p h at in
+          let x = issue-back n w b m (sound-issue n caps w g few (m .bodies)) p h at in
           subst (λ (z : Issue). User (z .frame) ⊎ Extra (z .frame)) (x .2) (either-kind (x .0 .message))
 
       bare : (p : ℕ) (h : Issue) → IssueAt b p h → Extra (h .frame) → bodyCarried (h .frame) ≡ []
       bare p h at e =
-          let x = issue-back n w b m (sound-issue n cap w g few (m .bodies)) p h at in
+          let x = issue-back n w b m (sound-issue n caps w g few (m .bodies)) p h at in
           let f = x .0 in
           let k = extra-kind (f .message) (subst (λ (z : Issue). Extra (z .frame)) (sym (x .2)) e) in
           subst (λ (z : Issue). bodyCarried (z .frame) ≡ []) (x .2) (body-encode p f (x .1) ∙ g .sound p f (x .1) .bare k)

@@ -15,7 +15,7 @@ use Rattle.causality.proofs.Steps.{deliver-matches, deliver-matches-sho
 use Rattle.causality.specs.Demand3.{BodiesOfBytes, Issue, Step, World, deliverAt, delivers, offerIssue, offers, run, sendAt, sends, start, step}
 use Rattle.holdback.proofs.Slots.{zeros-laid}
 use Rattle.matrix.specs.Array.{flat}
-use Rattle.matrix.specs.Message.{InRange}
+use Rattle.matrix.specs.Message.{EachInRange}
 use Rattle.node.specs.Calls.{deliverCall, sendCall}
 use Rattle.node.specs.Sizes.{outSize}
 use Rattle.rules.proofs.Kept.{range-T}
@@ -39,16 +39,16 @@ both n true x y u v f h = f tt
 both n false x y u v f h = h
 
 -- a step keeps the match
-module _ (n cap : ℕ) (w : messages.World) (b : World) (g : Good n (λ i. cap) w) (few : length (w .history) < 1000000000) (m : Matches n w b) where
+module _ (n : ℕ) (caps : ℕ → ℕ) (w : messages.World) (b : World) (g : Good n caps w) (few : length (w .history) < 1000000000) (m : Matches n w b) where
   send-step : (i to class : ℕ) (body out : List ℕ) → AllBytes body
       → Matches n (messages.step n w (forget (sends i to class body out))) (step n b (sends i to class body out))
   unfolding messages.step step
   send-step i to class body out bytes =
       cond-elim (λ (x : messages.Step). Matches n (messages.step n w x) new) (barred class body out) (messages.sends i i []) (messages.sends i to body)
       (λ s. both n (ltb i n) (messages.afterStep w i (messages.sends i i []) (send (w .nodes i) i [])) w after b
-      (λ t. send-matches-barred n cap w b g few m i (ltb→lt i n t) to class body out s) m)
+      (λ t. send-matches-barred n caps w b g few m i (ltb→lt i n t) to class body out s) m)
       (λ s. both n (ltb i n) (messages.afterStep w i (messages.sends i to body) (send (w .nodes i) to body)) w after b
-      (λ t. send-matches n cap w b g few m i (ltb→lt i n t) to class body out bytes s) m)
+      (λ t. send-matches n caps w b g few m i (ltb→lt i n t) to class body out bytes s) m)
     where
       after : World
       after = sendAt b i (sends i to class body out) (sendCall (b .records i) to class body out)
@@ -69,17 +69,17 @@ module _ (n cap : ℕ) (w : messages.World) (b : World) (g : Good n (λ i. cap) 
       go hi (some f) e =
           subst (λ (x : Option Issue). Matches n (messages.offerAt w i p (some f)) (offerIssue b i p x))
           (sym (ap (λ (l : List Issue). getElem? l p) (m .log) ∙ at-map encodeIssue (w .log) p f e))
-          (offer-matches n cap w b g few m i hi p f e)
+          (offer-matches n caps w b g few m i hi p f e)
 
   deliver-step : (i : ℕ) (out body : List ℕ) → Matches n (messages.step n w (forget (delivers i out body))) (step n b (delivers i out body))
   unfolding messages.step step
   deliver-step i out body =
       cond-elim (λ (x : messages.Step). Matches n (messages.step n w x) new) (lentLess out body) (messages.sends i i []) (messages.delivers i)
       (λ s. both n (ltb i n) (messages.afterStep w i (messages.sends i i []) (send (w .nodes i) i [])) w after b
-      (λ t. deliver-matches-short n cap w b g few m i (ltb→lt i n t) out body s) m)
+      (λ t. deliver-matches-short n caps w b g few m i (ltb→lt i n t) out body s) m)
       (λ s. let r = or-not (ltb (length out) outSize) (ltb (length body) maxBody) s in
       both n (ltb i n) (messages.afterStep w i (messages.delivers i) (deliver (w .nodes i))) w after b
-      (λ t. deliver-matches n cap w b g few m i (ltb→lt i n t) out body (nltb→le (length out) outSize (r .0)) (nltb→le (length body) maxBody (r .1))) m)
+      (λ t. deliver-matches n caps w b g few m i (ltb→lt i n t) out body (nltb→le (length out) outSize (r .0)) (nltb→le (length body) maxBody (r .1))) m)
     where
       after : World
       after = deliverAt b i (delivers i out body) (deliverCall (b .records i) (b .queues i) out body)
@@ -88,32 +88,32 @@ module _ (n cap : ℕ) (w : messages.World) (b : World) (g : Good n (λ i. cap) 
       new = cond (ltb i n) (deliverAt b i (delivers i out body) (deliverCall (b .records i) (b .queues i) out body)) b
 
 -- a list of steps keeps it
-pub run-matches : (n cap : ℕ) (l : List Step) → BodiesOfBytes l → (w : messages.World) (b : World) → Good n (λ i. cap) w
+pub run-matches : (n : ℕ) (caps : ℕ → ℕ) (l : List Step) → BodiesOfBytes l → (w : messages.World) (b : World) → Good n caps w
     → length (w .history) + length l < 1000000000 → Matches n w b
     → Matches n (messages.run n w (map forget l)) (run n b l)
-run-matches n cap [] bytes w b g few m = m
-run-matches n cap (sends i to class body out ∷ l) bytes w b g few m =
-    run-matches n cap l (bytes .1) (messages.step n w (forget (sends i to class body out))) (step n b (sends i to class body out))
-    (step-good n (λ i. cap) w (forget (sends i to class body out)) g)
-    (omega (arith, run-length n w (forget (sends i to class body out) ∷ []))) (send-step n cap w b g (omega arith) m i to class body out (bytes .0))
-run-matches n cap (offers i p ∷ l) bytes w b g few m =
-    run-matches n cap l bytes (messages.step n w (messages.offers i p)) (step n b (offers i p)) (step-good n (λ i. cap) w (messages.offers i p) g)
-    (omega (arith, run-length n w (messages.offers i p ∷ []))) (offer-step n cap w b g (omega arith) m i p)
-run-matches n cap (delivers i out body ∷ l) bytes w b g few m =
-    run-matches n cap l bytes (messages.step n w (forget (delivers i out body))) (step n b (delivers i out body))
-    (step-good n (λ i. cap) w (forget (delivers i out body)) g)
-    (omega (arith, run-length n w (forget (delivers i out body) ∷ []))) (deliver-step n cap w b g (omega arith) m i out body)
+run-matches n caps [] bytes w b g few m = m
+run-matches n caps (sends i to class body out ∷ l) bytes w b g few m =
+    run-matches n caps l (bytes .1) (messages.step n w (forget (sends i to class body out))) (step n b (sends i to class body out))
+    (step-good n caps w (forget (sends i to class body out)) g)
+    (omega (arith, run-length n w (forget (sends i to class body out) ∷ []))) (send-step n caps w b g (omega arith) m i to class body out (bytes .0))
+run-matches n caps (offers i p ∷ l) bytes w b g few m =
+    run-matches n caps l bytes (messages.step n w (messages.offers i p)) (step n b (offers i p)) (step-good n caps w (messages.offers i p) g)
+    (omega (arith, run-length n w (messages.offers i p ∷ []))) (offer-step n caps w b g (omega arith) m i p)
+run-matches n caps (delivers i out body ∷ l) bytes w b g few m =
+    run-matches n caps l bytes (messages.step n w (forget (delivers i out body))) (step n b (delivers i out body))
+    (step-good n caps w (forget (delivers i out body)) g)
+    (omega (arith, run-length n w (forget (delivers i out body) ∷ []))) (deliver-step n caps w b g (omega arith) m i out body)
 
 -- set-up's records are those of fresh nodes
 fresh-record : (me n cap : ℕ) → freshRecord me n cap ≡ recordOf (fresh me n cap)
 unfolding flat
 fresh-record me n cap = refl
 
-pub start-matches : (n cap : ℕ) → InRange n cap → Matches n (messages.start n (λ i. cap)) (start n cap)
+pub start-matches : (n : ℕ) (caps : ℕ → ℕ) → EachInRange n caps → Matches n (messages.start n caps) (start n caps)
 unfolding setUp
-start-matches n cap r = record {
-  records = λ k h. ap (λ (x : SetUp). x .node) (cond-yes (inRange k n cap) (record { answer = Ready; node = freshRecord k n cap })
-      (record { answer = Refused 1; node = freshRecord 0 0 0 }) (range-T k n cap (in-range k n cap h r))) ∙ fresh-record k n cap;
+start-matches n caps r = record {
+  records = λ k h. ap (λ (x : SetUp). x .node) (cond-yes (inRange k n (caps k)) (record { answer = Ready; node = freshRecord k n (caps k) })
+      (record { answer = Refused 1; node = freshRecord 0 0 0 }) (range-T k n (caps k) (in-range k n (caps k) h (r k h)))) ∙ fresh-record k n (caps k);
   queues = λ k h. zeros-laid;
   log = refl;
   history = empty;

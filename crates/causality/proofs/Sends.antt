@@ -47,14 +47,14 @@ use Rattle.node.specs.declared.SendAnswer.the-variants as answer
 abbrev pub barred : (class : ℕ) (body out : List ℕ) → Bool
 barred class body out = ltb (length out) outSize || lacksRight ours class body
 
-module _ (n cap : ℕ) (w : messages.World) (g : Good n (λ i. cap) w) (few : length (w .history) < 1000000000) (bodies : Bodies w) (i : ℕ) (hi : i < n) where
+module _ (n : ℕ) (caps : ℕ → ℕ) (w : messages.World) (g : Good n caps w) (few : length (w .history) < 1000000000) (bodies : Bodies w) (i : ℕ) (hi : i < n) where
   -- the node, with any messages held
   abbrev with-held : List Message → MessageNode
-  with-held l = record { me = i; n = n; cap = cap; matrix = w .nodes i .matrix; deliv = w .nodes i .deliv; held = l }
+  with-held l = record { me = i; n = n; cap = caps i; matrix = w .nodes i .matrix; deliv = w .nodes i .deliv; held = l }
 
   -- the node
   abbrev d : MessageNode
-  d = nodeAt n (λ k. cap) w i
+  d = nodeAt n caps w i
 
   -- its record
   abbrev r : Record
@@ -67,7 +67,7 @@ module _ (n cap : ℕ) (w : messages.World) (g : Good n (λ i. cap) w) (few : le
   -- check 5 is not met, whatever is held
   pub free : (l : List Message) → T (not (atLimit (with-held l)))
   unfolding atLimit
-  free l = below-limit n (λ k. cap) w g few i
+  free l = below-limit n caps w g few i
 
   -- a send is refused, or it is not, whatever is held
   data Case (to : ℕ) (body : List ℕ) : Type 0 where
@@ -127,14 +127,14 @@ module _ (n cap : ℕ) (w : messages.World) (g : Good n (λ i. cap) w) (few : le
     made : outSize ≤ length out → sendCall r to class body out ≡ settle (send (with-held []) to body)
     unfolding sendCall
     made h =
-        cond-no (brokenRecord r) (refuseSend 2 r out) behind (record-kept n cap w g few i hi)
+        cond-no (brokenRecord r) (refuseSend 2 r out) behind (record-kept n caps w g few i hi)
         ∙ cond-no (ltb (length out) outSize) (refuseSend 3 r out) (settle (send (nodeOf r []) to body)) (le→nltb (length out) outSize h)
-        ∙ ap (λ (e : MessageNode). settle (send e to body)) (node-back n cap w g few i hi [])
+        ∙ ap (λ (e : MessageNode). settle (send e to body)) (node-back n caps w g few i hi [])
 
     short : T (ltb (length out) outSize) → sendCall r to class body out ≡ refuseSend 3 r out
     unfolding sendCall
     short h =
-        cond-no (brokenRecord r) (refuseSend 2 r out) behind (record-kept n cap w g few i hi)
+        cond-no (brokenRecord r) (refuseSend 2 r out) behind (record-kept n caps w g few i hi)
         ∙ cond-yes (ltb (length out) outSize) (refuseSend 3 r out) (settle (send (nodeOf r []) to body)) h
 
     -- where the class has the right to the body, the call leaves what the protocol's send leaves
@@ -152,7 +152,7 @@ module _ (n cap : ℕ) (w : messages.World) (g : Good n (λ i. cap) w) (few : le
           answer = record { acceptance = refl; names = refl; taken = refl; given = refl; extras = refl; users = refl; expected = inl refl };
           frames = issued-frames out issues (omega (
             arith,
-            send-room (sentMessage d to body) (user-fits to body fits) extras (trim-bytes 12 i n cap (clear i to (w .nodes i .matrix))),
+            send-room (sentMessage d to body) (user-fits to body fits) extras (trim-bytes 12 i n (caps i) (clear i to (w .nodes i .matrix))),
           ));
           bodies = all-bytes;
         }))
@@ -169,7 +169,7 @@ module _ (n cap : ℕ) (w : messages.World) (g : Good n (λ i. cap) w) (few : le
         all-bytes : (p : ℕ) (m : Message) → getElem? (sentMessage d to body ∷ (sentMatrix d to) .extras) p ≡ some m → AllBytes (m .body)
         all-bytes zero m a = let z : sentMessage d to body ≡ m = cc in subst (λ (x : Message). AllBytes (x .body)) z bytes
         all-bytes (suc p) m a =
-            subst (λ (x : List ℕ). AllBytes x) (sym (trim-bare 12 i n cap (clear i to (w .nodes i .matrix)) p m a)) (small-bytes [] tt)
+            subst (λ (x : List ℕ). AllBytes x) (sym (trim-bare 12 i n (caps i) (clear i to (w .nodes i .matrix)) p m a)) (small-bytes [] tt)
 
     pub send-agrees : AllBytes body → outSize ≤ length out → lacksRight ours class body ≡ false → Left (send d to body) (sendCall r to class body out)
     send-agrees bytes h may = subst (Left (send d to body)) (sym (made h)) (settled bytes h may (case to body))

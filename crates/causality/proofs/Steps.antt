@@ -88,14 +88,14 @@ deliver-sends-nothing : (i : ℕ) (a : protocol.Answer) (t : Step) → SameSend 
 deliver-sends-nothing i a t k j text e _ = let z : _≡_ {A = ℕ} 0 1 = cc in absurd (omega arith)
 
 -- a step at node i
-module _ (n cap : ℕ) (w : messages.World) (b : World) (g : Good n (λ i. cap) w) (few : length (w .history) < 1000000000)
+module _ (n : ℕ) (caps : ℕ → ℕ) (w : messages.World) (b : World) (g : Good n caps w) (few : length (w .history) < 1000000000)
     (m : Matches n w b) (i : ℕ) (hi : i < n) where
   -- the node
   abbrev d : MessageNode
-  d = nodeAt n (λ k. cap) w i
+  d = nodeAt n caps w i
 
   same-node : w .nodes i ≡ d
-  same-node = node-eq n (λ k. cap) w g i hi
+  same-node = node-eq n caps w g i hi
 
   same-record : b .records i ≡ recordOf d
   same-record = m .records i hi ∙ ap recordOf same-node
@@ -115,12 +115,12 @@ module _ (n cap : ℕ) (w : messages.World) (b : World) (g : Good n (λ i. cap) 
   own-agrees : (a : Answer) (out : List ℕ) → SaysNo a → Agrees (send d i []) (recordOf d) (laid (map encode (w .nodes i .held))) a out
   own-agrees a out s =
       subst (λ (o : protocol.Outcome). Agrees o (recordOf d) (laid (map encode (w .nodes i .held))) a out)
-      (sym (own-refused d (below-limit n (λ k. cap) w g few i))) (refused-agrees d 6 a out s)
+      (sym (own-refused d (below-limit n caps w g few i))) (refused-agrees d 6 a out s)
 
   -- and sends nothing
   own-sends-nothing : (t : Step) → SameSend (messages.sends i i []) (send d i [] .answer) t
   own-sends-nothing t k j text e ok =
-      absurd (true≢false (sym ok ∙ ap (λ (o : protocol.Outcome). protocol.accepted (o .answer)) (own-refused d (below-limit n (λ k. cap) w g few i))))
+      absurd (true≢false (sym ok ∙ ap (λ (o : protocol.Outcome). protocol.accepted (o .answer)) (own-refused d (below-limit n caps w g few i))))
 
   -- a send
   module _ (to class : ℕ) (body out : List ℕ) where
@@ -142,12 +142,12 @@ module _ (n cap : ℕ) (w : messages.World) (b : World) (g : Good n (λ i. cap) 
         let may : lacksRight ours class body ≡ false = is-false (lacksRight ours class body) (x .1) in
         matched (messages.sends i to body) (sends i to class body out) (send-send i to i to class body body out) (λ z. send z to body)
         (right-send i to class body out (send d to body .answer) may) (c .result .node) (b .queues i) (sent (c .result .answer)) (c .out)
-        (sent-with (send d to body) (send-agrees n cap w g few (m .bodies) i hi to class body out bytes (nltb→le (length out) outSize (x .0)) may))
+        (sent-with (send d to body) (send-agrees n caps w g few (m .bodies) i hi to class body out bytes (nltb→le (length out) outSize (x .0)) may))
 
     pub send-matches-barred : T (barred class body out) → Sent (messages.sends i i []) (send (w .nodes i) i [])
     send-matches-barred h =
         let c : AfterSend = sendCall (b .records i) to class body out in
-        let x = send-barred n cap w g few (m .bodies) i hi to class body out h in
+        let x = send-barred n caps w g few (m .bodies) i hi to class body out h in
         matched (messages.sends i i []) (sends i to class body out) (send-send i i i to class [] body out) (λ z. send z i []) (own-sends-nothing (sends i to class body out))
         (c .result .node) (b .queues i) (sent (c .result .answer)) (c .out)
         (sent-with (send d i [])
@@ -165,7 +165,7 @@ module _ (n cap : ℕ) (w : messages.World) (b : World) (g : Good n (λ i. cap) 
     pub offered-here : OfferedWith (b .records i) (b .queues i)
     offered-here =
         subst (λ (r : Record). OfferedWith r (b .queues i)) (sym same-record)
-        (subst (λ (q : List ℕ). OfferedWith (recordOf d) q) (sym same-queue) (offer-agrees n cap w g few (m .bodies) i hi p f at))
+        (subst (λ (q : List ℕ). OfferedWith (recordOf d) q) (sym same-queue) (offer-agrees n caps w g few (m .bodies) i hi p f at))
 
     pub offer-matches : Matches n (messages.afterStep w i (messages.offers i p) (offer (w .nodes i) (f .message)))
         (offerAt b i (offers i p) (offerCall (b .records i) (encode (f .message)) (b .queues i)))
@@ -190,7 +190,7 @@ module _ (n cap : ℕ) (w : messages.World) (b : World) (g : Good n (λ i. cap) 
         subst (λ (r : Record). GivenWith o r (b .queues i)) (sym same-record) (subst (λ (q : List ℕ). GivenWith o (recordOf d) q) (sym same-queue) h)
 
     pub given-here : outSize ≤ length out → maxBody ≤ length body → GivenWith (deliver d) (b .records i) (b .queues i)
-    given-here h k = given-with (deliver d) (deliver-agrees n cap w g few (m .bodies) i hi out body h k)
+    given-here h k = given-with (deliver d) (deliver-agrees n caps w g few (m .bodies) i hi out body h k)
 
     pub deliver-matches : outSize ≤ length out → maxBody ≤ length body → Given (messages.delivers i) (deliver (w .nodes i))
     deliver-matches h k =
@@ -206,6 +206,6 @@ module _ (n cap : ℕ) (w : messages.World) (b : World) (g : Good n (λ i. cap) 
         (delivered (c .result .answer)) (c .out)
         (given-with (send d i [])
         (subst (λ (x : AfterDeliver). Agrees (send d i []) (x .result .node) (x .queue) (delivered (x .result .answer)) (x .out))
-        (sym (deliver-short n cap w g few (m .bodies) i hi out body h))
+        (sym (deliver-short n caps w g few (m .bodies) i hi out body h))
         (own-agrees (delivered (deliverAnswer.Refused 3)) out
         (record { refuses = refl; nothing = refl; holds = refl; gives = refl; counts = refl; extras = refl; users = refl; expected = inr (inl refl) }))))

@@ -5,7 +5,7 @@ use mathlib.Core.List.{List}
 use mathlib.Core.Option.{some}
 use mathlib.Core.Path.{_≡_}
 use lib.ListN.{length, getElem?}
-use Rattle.matrix.specs.Message.{InRange}
+use Rattle.matrix.specs.Message.{EachInRange}
 use Rattle.causality.specs.Demand3.{Step, offers, BodiesOfBytes, Event, World, accepted, start, run}
 
 -- an accepted offer of issue p, at any node
@@ -20,4 +20,4 @@ AcceptedOnceFor w = (t u p : ℕ) (e f : Event) → getElem? (w .history) t ≡ 
 
 -- for the lists of demand 3
 abbrev pub AcceptedOnce : Type 0
-AcceptedOnce = (n cap : ℕ) → InRange n cap → (steps : List Step) → BodiesOfBytes steps → length steps < 1000000000 → AcceptedOnceFor (run n (start n cap) steps)
+AcceptedOnce = (n : ℕ) (caps : ℕ → ℕ) → EachInRange n caps → (steps : List Step) → BodiesOfBytes steps → length steps < 1000000000 → AcceptedOnceFor (run n (start n caps) steps)

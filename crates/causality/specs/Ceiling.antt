@@ -1,5 +1,4 @@
 -- A ceiling on extras (document 02, (viii)): how many extra frames the lists of demand 3 issue at most, by what the calls answer.
--- Stated for a cap for each node; the lists of demand 3 have one cap for all.
 use Prim.Native.Nat.{ℕ, _+_, _*_, _-_, _≤_, _<_}
 use mathlib.Core.Bool.{cond, _&&_}
 use mathlib.Core.List.{List, [], _∷_}
@@ -7,7 +6,7 @@ use mathlib.Core.Option.{Option, none, some}
 use mathlib.Core.Path.{_≡_}
 use lib.Dec.{eqb}
 use lib.ListN.{length, getElem?}
-use Rattle.matrix.specs.Message.{InRange}
+use Rattle.matrix.specs.Message.{EachInRange}
 use Rattle.frame.specs.Header.{header}
 use Rattle.node.specs.declared.SendAnswer.the-variants as send
 use Rattle.node.specs.declared.DeliverAnswer.the-variants as deliver
@@ -69,5 +68,5 @@ pub record CeilingFor (n : ℕ) (caps : ℕ → ℕ) (w : World) : Type 0 where
 
 -- for the lists of demand 3
 abbrev pub Ceiling : Type 0
-Ceiling = (n cap : ℕ) → InRange n cap → (steps : List Step) → BodiesOfBytes steps → length steps < 1000000000
-    → CeilingFor n (λ i. cap) (run n (start n cap) steps)
+Ceiling = (n : ℕ) (caps : ℕ → ℕ) → EachInRange n caps → (steps : List Step) → BodiesOfBytes steps → length steps < 1000000000
+    → CeilingFor n caps (run n (start n caps) steps)

@@ -12,7 +12,7 @@ use Rattle.wire.specs.Limits.{maxBody, maxHeld}
 use Rattle.wire.specs.Bytes.{AllBytes}
 use Rattle.matrix.specs.Matrix.{count}
 use Rattle.matrix.specs.Array.{entry}
-use Rattle.matrix.specs.Message.{number, InRange}
+use Rattle.matrix.specs.Message.{number, EachInRange}
 use Rattle.protocol.specs.Node.{update}
 use Rattle.frame.specs.Header.{header, ownLength}
 use Rattle.frame.specs.Frame.{decode}
@@ -21,11 +21,10 @@ use Rattle.node.specs.declared.Node.{Node as Record}
 use Rattle.node.specs.declared.SendAnswer.{SendAnswer}
 use Rattle.node.specs.declared.OfferAnswer.{OfferAnswer}
 use Rattle.node.specs.declared.DeliverAnswer.{DeliverAnswer}
-use Rattle.node.specs.declared.SendAnswer.the-variants as send
 use Rattle.node.specs.declared.OfferAnswer.the-variants as offer
 use Rattle.node.specs.declared.DeliverAnswer.the-variants as deliver
 use Rattle.node.specs.SetUp.{setUp}
-use Rattle.node.specs.Answers.{sendNumber, offerNumber, deliverNumber, AfterSend, AfterOffer, AfterDeliver}
+use Rattle.node.specs.Answers.{sendNumber, offerNumber, deliverNumber, sendBytes, deliverBytes, AfterSend, AfterOffer, AfterDeliver}
 use Rattle.node.specs.Sizes.{outSize}
 use Rattle.node.specs.Calls.{sendCall, offerCall, deliverCall}
 
@@ -63,12 +62,9 @@ accepted a = eqb (refusal a) 0
 
 -- how many bytes of the frame output an answer counts
 abbrev pub bytesIssued : Answer → ℕ
-bytesIssued (sent (send.Refused k)) = 0
-bytesIssued (sent (send.Sent bytes extras)) = bytes
+bytesIssued (sent a) = sendBytes a
 bytesIssued (offered a) = 0
-bytesIssued (delivered (deliver.Refused k)) = 0
-bytesIssued (delivered (deliver.Nothing tried)) = 0
-bytesIssued (delivered (deliver.Frame d)) = d .bytes
+bytesIssued (delivered a) = deliverBytes a
 
 -- at most k frames that stand end to end, each cut off by its own e and b. A frame has 12 bytes or more, so k rounds are enough for k bytes,
 -- and k only shows that the cutting ends. Of bytes that are no frames the last piece is what is left; a call writes none such.
@@ -107,9 +103,9 @@ pub record World : Type 0 where
   pub log : List Issue
   pub history : List Event
 
--- for each me below n the record that set-up returns, and a queue of 12,832 zeros
-abbrev pub start : ℕ → ℕ → World
-start n cap = record { records = λ me. setUp me n cap .node; queues = λ me. zeros queueSize; log = []; history = [] }
+-- for each me below n the record that set-up returns for its cap, and a queue of 12,832 zeros
+abbrev pub start : ℕ → (ℕ → ℕ) → World
+start n caps = record { records = λ me. setUp me n (caps me) .node; queues = λ me. zeros queueSize; log = []; history = [] }
 
 -- issue p is g
 abbrev pub IssueAt : World → ℕ → Issue → Type 0
@@ -261,8 +257,9 @@ pub record Earliest (w : World) (p : ℕ) (g : Issue) : Type 0 where
   pub undelivered : ¬ Delivered w (g .frame)
   pub earlier : (q : ℕ) (h : Issue) → q < p → IssueAt w q h → Delivered w (h .frame)
 
--- a carried matrix is small: by the frame's own e, and as the matrix that the frame reads as
+-- the frame has this cap, and the matrix that it carries is within it: by the frame's own e, and as the matrix that the frame reads as
 pub record CarriesFew (cap : ℕ) (s : List ℕ) : Type 0 where
+  pub own : header s .cap ≡ cap
   pub e : header s .e ≤ cap
   pub matrix : count (decode s .entries) ≤ cap
 
@@ -276,15 +273,15 @@ pub record DeliversNew (w : World) (j : ℕ) : Type 0 where
   pub answers : (out body : List ℕ) → outSize ≤ length out → maxBody ≤ length body
       → delivery (delivered (deliverCall (w .records j) (w .queues j) out body .result .answer)) ≡ some (label (issue .frame))
 
--- what demand 3 says of the world that a list of steps of n nodes with this cap leads to
+-- what demand 3 says of the world that a list of steps of n nodes with these caps leads to
 -- causal: of two user frames to one node, the first sent before the second, the second is delivered only after the first
 -- once: no frame is delivered twice; distinct: from, to and number name one issued frame
--- kept, carried: at most cap entries of a kept and of a carried matrix are non-zero
+-- kept, carried: a kept matrix has at most its node's cap of non-zero entries; a frame has its sender's cap, and carries at most as many (document 02, (x))
 -- exists: where a frame is undelivered, there is an earliest such frame
 -- accepts: where that one is not held, and fewer than 16 are held at its destination, an offer of it there is accepted
 -- delivers: where it is held, or 16 are held there, a deliver there delivers a frame that was not delivered before
 -- agrees: what is held by the history is what the record counts and the queue has
-pub record Demand3For (n cap : ℕ) (w : World) : Type 0 where
+pub record Demand3For (n : ℕ) (caps : ℕ → ℕ) (w : World) : Type 0 where
   pub causal : (p q u : ℕ) (g h : Issue) → IssueAt w p g → IssueAt w q h → User (g .frame) → User (h .frame) → destination (g .frame) ≡ destination (h .frame)
       → HappenedBefore (w .log) (w .history) (g .step) (h .step) → DeliveredAt (w .history) u (h .frame)
       → (t : ℕ) × (t < u) × DeliveredAt (w .history) t (g .frame)
@@ -292,8 +289,8 @@ pub record Demand3For (n cap : ℕ) (w : World) : Type 0 where
   pub distinct : (p q : ℕ) (g h : Issue) → IssueAt w p g → IssueAt w q h → header (g .frame) .from ≡ header (h .frame) .from
       → destination (g .frame) ≡ destination (h .frame)
       → number (decode (g .frame)) ≡ number (decode (h .frame)) → p ≡ q
-  pub kept : (i : ℕ) → i < n → count (entry (w .records i .m)) ≤ cap
-  pub carried : (p : ℕ) (g : Issue) → IssueAt w p g → CarriesFew cap (g .frame)
+  pub kept : (i : ℕ) → i < n → count (entry (w .records i .m)) ≤ caps i
+  pub carried : (p : ℕ) (g : Issue) → IssueAt w p g → CarriesFew (caps (header (g .frame) .from)) (g .frame)
   pub exists : (p : ℕ) (g : Issue) → IssueAt w p g → ¬ Delivered w (g .frame) → (q : ℕ) × (h : Issue) × Earliest w q h
   pub accepts : (p : ℕ) (g : Issue) → Earliest w p g → ¬ Held w p (g .frame) → heldAt w (destination (g .frame)) < maxHeld
       → offerNumber (offerCall (w .records (destination (g .frame))) (g .frame) (w .queues (destination (g .frame))) .result .answer) ≡ 0
@@ -301,6 +298,7 @@ pub record Demand3For (n cap : ℕ) (w : World) : Type 0 where
       → DeliversNew w (destination (g .frame))
   pub agrees : (j : ℕ) → j < n → HeldAgrees w j
 
--- demand 3: for every n from 2 to 12, every cap from n to n * n, and every list of fewer than 1,000,000,000 steps
+-- demand 3: for every n from 2 to 12, any caps from n to n * n, one for each node, and every list of fewer than 1,000,000,000 steps
 abbrev pub Demand3 : Type 0
-Demand3 = (n cap : ℕ) → InRange n cap → (steps : List Step) → BodiesOfBytes steps → length steps < 1000000000 → Demand3For n cap (run n (start n cap) steps)
+Demand3 = (n : ℕ) (caps : ℕ → ℕ) → EachInRange n caps → (steps : List Step) → BodiesOfBytes steps → length steps < 1000000000
+    → Demand3For n caps (run n (start n caps) steps)

@@ -5,7 +5,7 @@ use mathlib.Core.Logic.{_⊎_}
 use mathlib.Core.Path.{_≡_}
 use lib.ListN.{length}
 use Rattle.wire.specs.Limits.{maxHeld}
-use Rattle.matrix.specs.Message.{InRange}
+use Rattle.matrix.specs.Message.{EachInRange}
 use Rattle.node.specs.Answers.{offerNumber}
 use Rattle.node.specs.Calls.{offerCall}
 use Rattle.causality.specs.Demand3.{Step, BodiesOfBytes, Issue, World, start, IssueAt, run, destination, Delivered, Held, heldAt, DeliversNew}
@@ -26,4 +26,4 @@ pub record Progress (w : World) : Type 0 where
 
 -- for the lists of demand 3
 abbrev pub EachDestination : Type 0
-EachDestination = (n cap : ℕ) → InRange n cap → (steps : List Step) → BodiesOfBytes steps → length steps < 1000000000 → Progress (run n (start n cap) steps)
+EachDestination = (n : ℕ) (caps : ℕ → ℕ) → EachInRange n caps → (steps : List Step) → BodiesOfBytes steps → length steps < 1000000000 → Progress (run n (start n caps) steps)

@@ -3,7 +3,7 @@ use Prim.Native.Nat.{ℕ, _+_, _*_, _-_, _≤_, _<_, min}
 use mathlib.Core.List.{List}
 use lib.ListN.{length}
 use Rattle.wire.specs.Limits.{maxBody}
-use Rattle.matrix.specs.Message.{InRange}
+use Rattle.matrix.specs.Message.{EachInRange}
 use Rattle.frame.specs.Header.{header}
 use Rattle.causality.specs.Demand3.{Step, BodiesOfBytes, Issue, World, IssueAt, User, start, run}
 use Rattle.causality.specs.Rights.{Extra}
@@ -23,5 +23,5 @@ pub record FrameSizesFor (n : ℕ) (caps : ℕ → ℕ) (w : World) : Type 0 whe
 
 -- for the lists of demand 3
 abbrev pub FrameSizes : Type 0
-FrameSizes = (n cap : ℕ) → InRange n cap → (steps : List Step) → BodiesOfBytes steps → length steps < 1000000000
-    → FrameSizesFor n (λ i. cap) (run n (start n cap) steps)
+FrameSizes = (n : ℕ) (caps : ℕ → ℕ) → EachInRange n caps → (steps : List Step) → BodiesOfBytes steps → length steps < 1000000000
+    → FrameSizesFor n caps (run n (start n caps) steps)

@@ -5,7 +5,7 @@ use mathlib.Core.Logic.{_⊎_}
 use mathlib.Core.Option.{some}
 use mathlib.Core.Path.{_≡_}
 use lib.ListN.{length, getElem?}
-use Rattle.matrix.specs.Message.{InRange}
+use Rattle.matrix.specs.Message.{EachInRange}
 use Rattle.causality.specs.Demand3.{Step, BodiesOfBytes, Answer, sent, offered, delivered, refusal, Event, World, start, run}
 
 -- k is one of a list of numbers
@@ -34,4 +34,4 @@ pub record ListRefusalsFor (w : World) : Type 0 where
 
 -- for the lists of demand 3
 abbrev pub ListRefusals : Type 0
-ListRefusals = (n cap : ℕ) → InRange n cap → (steps : List Step) → BodiesOfBytes steps → length steps < 1000000000 → ListRefusalsFor (run n (start n cap) steps)
+ListRefusals = (n : ℕ) (caps : ℕ → ℕ) → EachInRange n caps → (steps : List Step) → BodiesOfBytes steps → length steps < 1000000000 → ListRefusalsFor (run n (start n caps) steps)

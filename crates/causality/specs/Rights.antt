@@ -7,7 +7,7 @@ use mathlib.Core.Option.{some}
 use mathlib.Core.Path.{_≡_}
 use lib.ListN.{length, getElem?}
 use Rattle.wire.specs.Limits.{maxBody}
-use Rattle.matrix.specs.Message.{InRange}
+use Rattle.matrix.specs.Message.{EachInRange}
 use Rattle.frame.specs.Header.{header}
 use Rattle.frame.specs.Frame.{decode}
 use Rattle.rights.specs.Topics.{Group, motion, groupOf}
@@ -64,4 +64,4 @@ pub record RightsFor (n : ℕ) (w : World) : Type 0 where
 
 -- for the lists of demand 3
 abbrev pub RightsKept : Type 0
-RightsKept = (n cap : ℕ) → InRange n cap → (steps : List Step) → BodiesOfBytes steps → length steps < 1000000000 → RightsFor n (run n (start n cap) steps)
+RightsKept = (n : ℕ) (caps : ℕ → ℕ) → EachInRange n caps → (steps : List Step) → BodiesOfBytes steps → length steps < 1000000000 → RightsFor n (run n (start n caps) steps)

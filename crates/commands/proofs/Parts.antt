@@ -7,11 +7,9 @@ use lib.ListN.{drop, getD, length, take}
 use Rattle.text.specs.Fields.{value}
 use Rattle.text.specs.Pieces.{split}
 use Rattle.text.specs.Before.{before}
-use Rattle.text.proofs.Pieces.{one-piece, second-piece, split-some, third-piece, three-pieces, two-pieces}
+use Rattle.text.proofs.Pieces.{one-piece, split-some, third-piece, three-pieces, two-pieces}
 use Rattle.commands.specs.Commands as commands
-use Rattle.commands.specs.FirstLine as firstLine
 use Rattle.commands.specs.declared.Command.the-variants as Command
-use Rattle.commands.specs.declared.FirstLine.the-variants as FirstLine
 
 -- the letter of a first piece that goes up to place `end`
 pub letter-none : (s : List ℕ) (end : ℕ) → end ≤ length s → (end ≡ 1 → ⊥) → commands.letter (take end s) ≡ 0
@@ -33,36 +31,17 @@ unfolding commands.ofPieces
 command-longer l i j [] h = absurd (omega arith)
 command-longer l i j (k ∷ ps) h = refl
 
-pub firstLine-longer : (n cap : List ℕ) (ps : List (List ℕ)) → 1 ≤ length ps → firstLine.ofPieces (n ∷ cap ∷ ps) ≡ FirstLine.Other
-unfolding firstLine.ofPieces
-firstLine-longer n cap [] h = absurd (omega arith)
-firstLine-longer n cap (k ∷ ps) h = refl
-
 -- what a line says where the search found no place, and where it found a second and a third one
 module _ (s : List ℕ) (a : ℕ) (first : a ≡ 0 + before 32 (drop 0 s)) (none : a ≡ length s) where
   pub command-bare : commands.command s ≡ Command.Other
   unfolding commands.command commands.ofPieces
   command-bare = rw (one-piece 32 s a first none)
 
-  pub firstLine-bare : firstLine.firstLine s ≡ FirstLine.Other
-  unfolding firstLine.firstLine firstLine.ofPieces
-  firstLine-bare = rw (one-piece 32 s a first none)
-
 module _ (s : List ℕ) (a b : ℕ) (first : a ≡ 0 + before 32 (drop 0 s)) (more : a < length s) (second : b ≡ a + 1 + before 32 (drop (a + 1) s)) where
   pub command-one : b ≡ length s
       → commands.command s ≡ commands.withOne (commands.letter (take a s)) (value 3 (take (b - (a + 1)) (drop (a + 1) s)))
   unfolding commands.command commands.ofPieces
   command-one h = rw (two-pieces 32 s a b first more second h)
-
-  pub firstLine-two : b ≡ length s → firstLine.firstLine s ≡ firstLine.sizes (value 3 (take a s)) (value 3 (take (b - (a + 1)) (drop (a + 1) s)))
-  unfolding firstLine.firstLine firstLine.ofPieces
-  firstLine-two h = rw (two-pieces 32 s a b first more second h)
-
-  pub firstLine-more : b < length s → firstLine.firstLine s ≡ FirstLine.Other
-  unfolding firstLine.firstLine
-  firstLine-more h =
-      rw (second-piece 32 s a b first more second h)
-      (firstLine-longer (take a s) (take (b - (a + 1)) (drop (a + 1) s)) (split 32 (drop (b + 1) s)) (split-some 32 (drop (b + 1) s)))
 
 module _ (s : List ℕ) (a b e : ℕ) (first : a ≡ 0 + before 32 (drop 0 s)) (more : a < length s) (second : b ≡ a + 1 + before 32 (drop (a + 1) s))
     (again : b < length s) (third : e ≡ b + 1 + before 32 (drop (b + 1) s)) where

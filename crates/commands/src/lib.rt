@@ -3,7 +3,11 @@ ghost use mathlib.Core.Path.{_≡_};
 ghost use Prim.Native.Nat.{_≤_};
 ghost use lib.ListN.{length, take};
 ghost use Rattle.commands.specs.Commands.{letter, withOne, withTwo, command};
-ghost use Rattle.commands.specs.FirstLine.{sizes, firstLine};
+ghost use Rattle.commands.specs.FirstLine.{other, numbers, counted, sizes, firstLine};
+ghost use Rattle.commands.specs.Behind.{behind};
+
+/// Caps that a first line gives at most: a yard has at most four nodes.
+pub const MAX_CAPS: usize = 4;
 
 /// What a line asks for; the numbers are as they stand in the line, and may be out of range.
 pub enum Command {
@@ -13,10 +17,16 @@ pub enum Command {
     Other,
 }
 
-/// What the first line says.
-pub enum FirstLine {
-    Sizes { n: usize, cap: usize },
+/// Whether a first line gives sizes, and then its n, which may be out of range.
+pub enum Form {
+    Sizes(usize),
     Other,
+}
+
+/// What the first line says; the caps are as they stand in the line, one for each of the n nodes, with zeros behind them, and all zero in another form.
+pub struct FirstLine {
+    pub form: Form,
+    pub caps: [usize; MAX_CAPS],
 }
 
 // The byte of a first piece of one byte that ends at `end`, and 0 where it has another length.
@@ -92,34 +102,63 @@ pub fn parse_command(line: &[u8]) -> Command
     with_two(l, first, text::field(line, j, e, 3))
 }
 
-// The sizes of two fields.
-fn sizes(n: text::Number, cap: text::Number) -> FirstLine
-    ensures { λ r. ⌜ r ≡ sizes n cap ⌝ }
+// A first line of another form.
+fn other() -> FirstLine
+    ensures { λ r. ⌜ r ≡ other ⌝ }
+{
+    FirstLine {
+        form: Form::Other,
+        caps: [0; MAX_CAPS],
+    }
+}
+
+// The sizes of n and `count` caps, another form where these are not as many as the nodes.
+fn counted(n: text::Number, count: usize, caps: [usize; MAX_CAPS]) -> FirstLine
+    ensures { λ r. ⌜ r ≡ counted n count caps ⌝ }
 {
     match n {
-        text::Number::Is(v) => match cap {
-            text::Number::Is(w) => FirstLine::Sizes {
-                n: v as usize,
-                cap: w as usize,
-            },
-            text::Number::Not => FirstLine::Other,
-        },
-        text::Number::Not => FirstLine::Other,
+        text::Number::Is(v) => {
+            let nodes = v as usize;
+            if count == nodes {
+                return FirstLine {
+                    form: Form::Sizes(nodes),
+                    caps,
+                };
+            }
+            other()
+        }
+        text::Number::Not => other(),
     }
+}
+
+// The sizes of n, whose field ends at `from`, and of the caps behind it; more than `MAX_CAPS` of them are another form, also where n is as large.
+fn with_caps(n: text::Number, line: &[u8], from: usize) -> FirstLine
+    requires { ⌜ from ≤ length (now line) ⌝ }
+    ensures { λ r. ⌜ r ≡ sizes n (numbers (behind from (now (line .entry)))) ⌝ }
+{
+    let mut caps = [0usize; MAX_CAPS];
+    let mut count: usize = 0;
+    let mut end = from;
+    while end < line.len() {
+        if count == MAX_CAPS {
+            return other();
+        }
+        let at = end + 1;
+        end = text::find(line, at, b' ');
+        let cap = text::field(line, at, end, 3);
+        match cap {
+            text::Number::Is(v) => caps[count] = v as usize,
+            text::Number::Not => return other(),
+        }
+        count += 1;
+    }
+    counted(n, count, caps)
 }
 
 /// What the first line says, without its line feed.
 pub fn parse_first_line(line: &[u8]) -> FirstLine
     ensures { λ r. ⌜ r ≡ firstLine (now (line .entry)) ⌝ }
 {
-    let a = text::find(line, 0, b' ');
-    if a == line.len() {
-        return FirstLine::Other;
-    }
-    let i = a + 1;
-    let b = text::find(line, i, b' ');
-    if b < line.len() {
-        return FirstLine::Other;
-    }
-    sizes(text::field(line, 0, a, 3), text::field(line, i, b, 3))
+    let end = text::find(line, 0, b' ');
+    with_caps(text::field(line, 0, end, 3), line, end)
 }

@@ -5,7 +5,7 @@ use mathlib.Core.List.{List, [], _∷_, _++_}
 use mathlib.Core.Option.{some}
 use mathlib.Core.Path.{_≡_, _∙_, ap, refl, subst, sym}
 use native.Mathlib.Omega.{arith}
-use Rattle.matrix.specs.Message.{InRange}
+use Rattle.matrix.specs.Message.{EachInRange}
 use Rattle.node.specs.declared.OfferAnswer.{OfferAnswer}
 use Rattle.node.specs.declared.OfferAnswer.the-variants as offerAnswer
 use Rattle.causality.proofs.Demand3.{acceptedOnce, demand3}
@@ -79,47 +79,47 @@ module _ (k : ℕ) (t : Counters) (w : World) (h : Tallied k t (w .history)) whe
 -- ---- the list and the delays
 
 -- the state z after k steps
-pub record Kept (n cap k : ℕ) (z : State) : Type 0 where
-  pub reached : Reached n cap k (z .world)
+pub record Kept (n : ℕ) (caps : ℕ → ℕ) (k : ℕ) (z : State) : Type 0 where
+  pub reached : Reached n caps k (z .world)
   pub tallied : Tallied k (z .counters) (z .world .history)
 
 -- before the first step
-pub kept-start : (n cap : ℕ) → Kept n cap 0 (opened n cap)
-kept-start n cap = record { reached = reached-start n cap; tallied = record { same = delays-start; few = omega arith } }
+pub kept-start : (n : ℕ) (caps : ℕ → ℕ) → Kept n caps 0 (opened n caps)
+kept-start n caps = record { reached = reached-start n caps; tallied = record { same = delays-start; few = omega arith } }
 
-module _ (n cap k : ℕ) (z : State) (r : Kept n cap k z) where
+module _ (n : ℕ) (caps : ℕ → ℕ) (k : ℕ) (z : State) (r : Kept n caps k z) where
   -- where nothing is done
-  pub later-kept : Kept n cap (k + 1) z
+  pub later-kept : Kept n caps (k + 1) z
   later-kept = record {
-    reached = reached-later n cap k (z .world) (r .reached);
+    reached = reached-later n caps k (z .world) (r .reached);
     tallied = record { same = r .tallied .same; few = omega (arith, r .tallied .few) };
   }
 
-  pub send-kept : (limit i j : ℕ) → Kept n cap (k + 1) (stateAfter (z .counters) (sendStep n limit (z .world) i j))
+  pub send-kept : (limit i j : ℕ) → Kept n caps (k + 1) (stateAfter (z .counters) (sendStep n limit (z .world) i j))
   send-kept limit i j = record {
-    reached = send-reached n cap k (z .world) (r .reached) limit i j;
+    reached = send-reached n caps k (z .world) (r .reached) limit i j;
     tallied = send-tallied k (z .counters) (z .world) (r .tallied) n limit i j;
   }
 
-  pub offer-kept : InRange n cap → k < 1000000000 → (m : ℕ) → Kept n cap (k + 1) (stateAfter (z .counters) (offerStep (z .world) m))
+  pub offer-kept : EachInRange n caps → k < 1000000000 → (m : ℕ) → Kept n caps (k + 1) (stateAfter (z .counters) (offerStep (z .world) m))
   offer-kept inside short m = record {
-    reached = offer-reached n cap k (z .world) (r .reached) inside short m;
+    reached = offer-reached n caps k (z .world) (r .reached) inside short m;
     tallied = offer-tallied k (z .counters) (z .world) (r .tallied) short m;
   }
 
-  pub deliver-kept : (limit j : ℕ) → Kept n cap (k + 1) (stateAfter (z .counters) (deliverStep n limit (z .world) j))
+  pub deliver-kept : (limit j : ℕ) → Kept n caps (k + 1) (stateAfter (z .counters) (deliverStep n limit (z .world) j))
   deliver-kept limit j = record {
-    reached = deliver-reached n cap k (z .world) (r .reached) limit j;
+    reached = deliver-reached n caps k (z .world) (r .reached) limit j;
     tallied = deliver-tallied k (z .counters) (z .world) (r .tallied) n limit j;
   }
 
 -- after fewer than 1,000,000,000
-pub of-list : (n cap k : ℕ) (z : State) → InRange n cap → Kept n cap k z → k < 1000000000 → OfList n cap k z
-of-list n cap k z inside r short =
-    let list : Reached n cap k (z .world) = r .reached in
+pub of-list : (n : ℕ) (caps : ℕ → ℕ) (k : ℕ) (z : State) → EachInRange n caps → Kept n caps k z → k < 1000000000 → OfList n caps k z
+of-list n caps k z inside r short =
+    let list : Reached n caps k (z .world) = r .reached in
     record {
       reached = list;
-      demand3 = subst (Demand3For n cap) (sym (list .same)) (demand3 n cap inside (list .steps) (list .bytes) (omega (arith, list .few)));
+      demand3 = subst (Demand3For n caps) (sym (list .same)) (demand3 n caps inside (list .steps) (list .bytes) (omega (arith, list .few)));
       delays = ap some (r .tallied .same);
-      once = subst AcceptedOnceFor (sym (list .same)) (acceptedOnce n cap inside (list .steps) (list .bytes) (omega (arith, list .few)));
+      once = subst AcceptedOnceFor (sym (list .same)) (acceptedOnce n caps inside (list .steps) (list .bytes) (omega (arith, list .few)));
     }

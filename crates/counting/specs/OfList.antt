@@ -14,8 +14,8 @@ use Rattle.counting.specs.State.{State}
 -- reached, demand3: at most k steps of a list lead to its world, so demand 3 holds of it
 -- delays: the fourth of its T numbers (place 3) is the number of delays in the list's history
 -- once: no frame is accepted twice, so that a frame is counted once
-pub record OfList (n cap k : ℕ) (z : State) : Type 0 where
-  pub reached : Reached n cap k (z .world)
-  pub demand3 : Demand3For n cap (z .world)
+pub record OfList (n : ℕ) (caps : ℕ → ℕ) (k : ℕ) (z : State) : Type 0 where
+  pub reached : Reached n caps k (z .world)
+  pub demand3 : Demand3For n caps (z .world)
   pub delays : getElem? (totals (z .counters)) 3 ≡ some (delays (z .world .history))
   pub once : AcceptedOnceFor (z .world)

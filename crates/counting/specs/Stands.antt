@@ -19,12 +19,12 @@ Few (outcome.Nothing tried) = tried < 100
 Few (outcome.Delivered issue tried extras) = extras < 100
 
 -- the state z, which at most k steps led to, is stored in y, the queues q and the log l; there are at most `limit` issues
-pub record Stands (n cap limit k : ℕ) (z : State) (y : Stored) (q l : List ℕ) : Type 0 where
-  pub world : Holds n cap limit k (z .world) (y .world) q l
+pub record Stands (n : ℕ) (caps : ℕ → ℕ) (limit k : ℕ) (z : State) (y : Stored) (q l : List ℕ) : Type 0 where
+  pub world : Holds n caps limit k (z .world) (y .world) q l
   pub counters : y .counters ≡ z .counters
 
 -- the start of some simulation is stored
 pub record Opened (limit : ℕ) (w : World) (q l : List ℕ) : Type 0 where
   pub n : ℕ
-  pub cap : ℕ
-  pub holds : Holds n cap limit 0 (start n cap) w q l
+  pub caps : ℕ → ℕ
+  pub holds : Holds n caps limit 0 (start n caps) w q l

@@ -13,9 +13,9 @@ pub record State : Type 0 where
   pub world : World
   pub counters : Counters
 
--- n nodes with one cap, before the first step
-abbrev pub opened : ℕ → ℕ → State
-opened n cap = record { world = start n cap; counters = noCounters }
+-- n nodes with these caps, before the first step
+abbrev pub opened : ℕ → (ℕ → ℕ) → State
+opened n caps = record { world = start n caps; counters = noCounters }
 
 -- 1 for a frame that has to wait
 abbrev pub waits : Bool → ℕ

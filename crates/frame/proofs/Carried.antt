@@ -24,15 +24,15 @@ pub record Carried (n : ℕ) (m : Message) : Type 0 where
   pub rules : MatrixRules n (m .from) (m .entries)
   pub limit : (x y : ℕ) → m .entries x y ≤ maxCount
 
-module _ (n cap : ℕ) (s : List ℕ) (e : frameRefusal n cap s ≡ 0) where
+module _ (n : ℕ) (s : List ℕ) (e : frameRefusal n s ≡ 0) where
   abbrev h : Header
   h = header s
 
   abbrev l : List Entry
   l = entriesFrom s 0 (h .e)
 
-  k : Kept n cap s (header s) (entriesFrom s 0 (header s .e))
-  k = passes-kept n cap s e
+  k : Kept n s (header s) (entriesFrom s 0 (header s .e))
+  k = passes-kept n s e
 
   -- an entry that is not zero keeps the rules of an entry
   entry : (x y : ℕ) → (matrixOf l x y ≡ 0 → ⊥) → EntryKept n h (record { row = x; column = y; value = matrixOf l x y })

@@ -11,7 +11,7 @@ use lib.ListN.{length}
 use Rattle.frame.specs.Entries.{entriesFrom, entryAt}
 use Rattle.frame.specs.Header.{header}
 use Rattle.frame.specs.Refusals.{precedes, eachOk, entryOk, frameRefusal, rising, risingAfter, wrongAddress}
-use Rattle.frame.specs.Refusals.{wrongBody, wrongContent, wrongEntries, wrongKind, wrongTrailer}
+use Rattle.frame.specs.Refusals.{wrongBody, wrongCap, wrongContent, wrongEntries, wrongKind, wrongTrailer}
 use Rattle.frame.specs.declared.entries.Entry.{Entry}
 use Rattle.frame.specs.declared.header.Header.{Header}
 use Rattle.wire.proofs.Tests.{no-three, not-not, of-false}
@@ -34,9 +34,9 @@ unfolding wrongKind
 kind-left h r k = simp (eq-eqb (h .reserved) 0 r, ne-eqb (h .kind) 1 k, or-false)
 
 -- 10
-pub address-left : (n cap : ℕ) (h : Header) → h .n ≡ n → h .cap ≡ cap → h .from < n → h .to < n → wrongAddress n cap h ≡ eqb (h .from) (h .to)
+pub address-left : (n : ℕ) (h : Header) → h .n ≡ n → wrongCap n h ≡ false → h .from < n → h .to < n → wrongAddress n h ≡ eqb (h .from) (h .to)
 unfolding wrongAddress
-address-left n cap h a b c d = simp (eq-eqb (h .n) n a, eq-eqb (h .cap) cap b, lt-ltb (h .from) n c, lt-ltb (h .to) n d)
+address-left n h a b c d = simp (eq-eqb (h .n) n a, b, lt-ltb (h .from) n c, lt-ltb (h .to) n d)
 
 -- 11, an entry
 pub entry-left : (n : ℕ) (h : Header) (a : Entry) → a .row < n → a .column < n → (a .row ≡ a .column → ⊥)
@@ -152,22 +152,22 @@ pub walk-holds : (n : ℕ) (h : Header) (s : List ℕ) (e : ℕ) → AllBytes s 
 walk-holds n h s e b f = sym (entries-walk n h (entriesFrom s 0 e) (narrow s b 0 e) ∙ ap not f)
 
 -- 11, test by test, of a frame whose count pointed back is right
-module _ (n cap : ℕ) (s : List ℕ) (h : Header) (e : h ≡ header s) (back : countBack s ≡ length s - 4) where
-  pub content-count : (8 + 6 * h .e + h .b ≡ length s - 4 → ⊥) → wrongContent n cap s ≡ true
+module _ (n : ℕ) (s : List ℕ) (h : Header) (e : h ≡ header s) (back : countBack s ≡ length s - 4) where
+  pub content-count : (8 + 6 * h .e + h .b ≡ length s - 4 → ⊥) → wrongContent n s ≡ true
   unfolding wrongContent
   content-count p = rw (← e, back, ne-eqb (8 + 6 * h .e + h .b) (length s - 4) p)
 
-  pub content-body : 8 + 6 * h .e + h .b ≡ length s - 4 → wrongBody h ≡ true → wrongContent n cap s ≡ true
+  pub content-body : 8 + 6 * h .e + h .b ≡ length s - 4 → wrongBody h ≡ true → wrongContent n s ≡ true
   unfolding wrongContent
   content-body p b = rw (← e, back, eq-eqb (8 + 6 * h .e + h .b) (length s - 4) p, b)
 
-  pub content-cap : 8 + 6 * h .e + h .b ≡ length s - 4 → wrongBody h ≡ false → cap < h .e → wrongContent n cap s ≡ true
+  pub content-cap : 8 + 6 * h .e + h .b ≡ length s - 4 → wrongBody h ≡ false → h .cap < h .e → wrongContent n s ≡ true
   unfolding wrongContent
-  content-cap p b c = rw (← e, back, eq-eqb (8 + 6 * h .e + h .b) (length s - 4) p, b, lt-ltb cap (h .e) c)
+  content-cap p b c = rw (← e, back, eq-eqb (8 + 6 * h .e + h .b) (length s - 4) p, b, lt-ltb (h .cap) (h .e) c)
 
-  pub content-left : 8 + 6 * h .e + h .b ≡ length s - 4 → wrongBody h ≡ false → h .e ≤ cap → wrongContent n cap s ≡ wrongEntries n h (entriesFrom s 0 (h .e))
+  pub content-left : 8 + 6 * h .e + h .b ≡ length s - 4 → wrongBody h ≡ false → h .e ≤ h .cap → wrongContent n s ≡ wrongEntries n h (entriesFrom s 0 (h .e))
   unfolding wrongContent
-  content-left p b c = rw (← e, back, eq-eqb (8 + 6 * h .e + h .b) (length s - 4) p, b, le-ltb cap (h .e) c)
+  content-left p b c = rw (← e, back, eq-eqb (8 + 6 * h .e + h .b) (length s - 4) p, b, le-ltb (h .cap) (h .e) c)
 
 -- what passing 8 tells: the header can be read, and the count pointed back is right
 pub trailer-passed : (s : List ℕ) → wrongTrailer s ≡ false → (12 ≤ length s) × (countBack s ≡ length s - 4)
@@ -178,19 +178,19 @@ trailer-passed s e =
     (nltb→le (length s) 12 (t .0), trailed s (not-not (hasTrailer s) (t .2)) .count)
 
 -- the refusal, check by check, in rising order
-module _ (n cap : ℕ) (s : List ℕ) (h : Header) (e : h ≡ header s) (p : wrongTrailer s ≡ false) where
-  pub refusal-9 : wrongKind h ≡ true → frameRefusal n cap s ≡ 9
+module _ (n : ℕ) (s : List ℕ) (h : Header) (e : h ≡ header s) (p : wrongTrailer s ≡ false) where
+  pub refusal-9 : wrongKind h ≡ true → frameRefusal n s ≡ 9
   unfolding frameRefusal
   refusal-9 k = rw (p, ← e, k)
 
-  pub refusal-10 : wrongKind h ≡ false → wrongAddress n cap h ≡ true → frameRefusal n cap s ≡ 10
+  pub refusal-10 : wrongKind h ≡ false → wrongAddress n h ≡ true → frameRefusal n s ≡ 10
   unfolding frameRefusal
   refusal-10 k a = rw (p, ← e, k, a)
 
-  pub refusal-11 : wrongKind h ≡ false → wrongAddress n cap h ≡ false → wrongContent n cap s ≡ true → frameRefusal n cap s ≡ 11
+  pub refusal-11 : wrongKind h ≡ false → wrongAddress n h ≡ false → wrongContent n s ≡ true → frameRefusal n s ≡ 11
   unfolding frameRefusal
   refusal-11 k a c = rw (p, ← e, k, a, c)
 
-  pub refusal-none : wrongKind h ≡ false → wrongAddress n cap h ≡ false → wrongContent n cap s ≡ false → frameRefusal n cap s ≡ 0
+  pub refusal-none : wrongKind h ≡ false → wrongAddress n h ≡ false → wrongContent n s ≡ false → frameRefusal n s ≡ 0
   unfolding frameRefusal
   refusal-none k a c = rw (p, ← e, k, a, c)

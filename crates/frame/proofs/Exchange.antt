@@ -26,6 +26,6 @@ exchange-8 s b e k u =
 
 pub exchangeMeets8 : ExchangeMeets8
 unfolding frameRefusal
-exchangeMeets8 n cap s f k u n′ cap′ =
+exchangeMeets8 n s f k u n′ =
     let not8 = is-false (wrongTrailer s) (skipped (wrongTrailer s) 8 _ (omega arith) (f .passes) .0) in
     rw (exchange-8 s (f .bytes) not8 k u)

@@ -9,7 +9,7 @@ use lib.Dec.{T, eqb, eqb→eq, leb, leb→le, le→leb, ltb, ltb→lt, lt→ltb,
 use lib.ListN.{length}
 use Rattle.frame.specs.Entries.{entriesFrom}
 use Rattle.frame.specs.Header.{header}
-use Rattle.frame.specs.Refusals.{eachOk, entryOk, frameRefusal, rising, wrongAddress, wrongBody, wrongContent, wrongEntries, wrongKind, wrongTrailer}
+use Rattle.frame.specs.Refusals.{eachOk, entryOk, frameRefusal, rising, wrongAddress, wrongBody, wrongCap, wrongContent, wrongEntries, wrongKind, wrongTrailer}
 use Rattle.frame.specs.declared.entries.Entry.{Entry}
 use Rattle.frame.specs.declared.header.Header.{Header}
 use Rattle.wire.proofs.Tests.{all-seven, and-T, eq→eqb, if-not, if-then, is-false, is-true, le→nltb, neqb→ne, ne→neqb}
@@ -54,44 +54,46 @@ kept-entry n h a k =
     rw (r, c, d, f, l, m) (then-if (eqb (h .kind) 2) (eqb (a .column) (h .to)) (λ t. eq→eqb (a .column) (h .to) (k .extraTo (eqb→eq (h .kind) 2 t))))
 
 -- the rules of a frame s with the header h and the entries l
-pub record Kept (n cap : ℕ) (s : List ℕ) (h : Header) (l : List Entry) : Type 0 where
+pub record Kept (n : ℕ) (s : List ℕ) (h : Header) (l : List Entry) : Type 0 where
   pub long : 12 ≤ length s
   pub most : length s ≤ maxFrame
   pub trailer : T (hasTrailer s)
   pub kind : (h .kind ≡ 1) ⊎ (h .kind ≡ 2)
   pub reserved : h .reserved ≡ 0
   pub sameN : h .n ≡ n
-  pub sameCap : h .cap ≡ cap
+  pub capFrom : n ≤ h .cap
+  pub capTo : h .cap ≤ n * n
   pub from : h .from < n
   pub to : h .to < n
   pub apart : h .from ≡ h .to → ⊥
   pub size : 8 + 6 * h .e + h .b ≡ countBack s
   pub short : h .b ≤ maxBody
   pub bare : h .kind ≡ 2 → h .b ≡ 0
-  pub few : h .e ≤ cap
+  pub few : h .e ≤ h .cap
   pub each : T (eachOk n h l)
   pub rise : T (rising l)
 
 -- bytes that meet no refusal keep them, and the other way round
-module _ (n cap : ℕ) (s : List ℕ) where
+module _ (n : ℕ) (s : List ℕ) where
   abbrev h : Header
   h = header s
 
   abbrev l : List Entry
   l = entriesFrom s 0 (h .e)
 
-  pub passes-kept : frameRefusal n cap s ≡ 0 → Kept n cap s (header s) (entriesFrom s 0 (header s .e))
+  pub passes-kept : frameRefusal n s ≡ 0 → Kept n s (header s) (entriesFrom s 0 (header s .e))
   unfolding frameRefusal wrongTrailer wrongKind wrongAddress wrongContent wrongBody wrongEntries
   passes-kept e =
-      let e8 = skipped (wrongTrailer s) 8 (cond (wrongKind h) 9 (cond (wrongAddress n cap h) 10 (cond (wrongContent n cap s) 11 0))) (omega arith) e in
-      let e9 = skipped (wrongKind h) 9 (cond (wrongAddress n cap h) 10 (cond (wrongContent n cap s) 11 0)) (omega arith) (e8 .1) in
-      let e10 = skipped (wrongAddress n cap h) 10 (cond (wrongContent n cap s) 11 0) (omega arith) (e9 .1) in
-      let e11 = skipped (wrongContent n cap s) 11 0 (omega arith) (e10 .1) in
+      let e8 = skipped (wrongTrailer s) 8 (cond (wrongKind h) 9 (cond (wrongAddress n h) 10 (cond (wrongContent n s) 11 0))) (omega arith) e in
+      let e9 = skipped (wrongKind h) 9 (cond (wrongAddress n h) 10 (cond (wrongContent n s) 11 0)) (omega arith) (e8 .1) in
+      let e10 = skipped (wrongAddress n h) 10 (cond (wrongContent n s) 11 0) (omega arith) (e9 .1) in
+      let e11 = skipped (wrongContent n s) 11 0 (omega arith) (e10 .1) in
       let t = no-three (ltb (length s) 12) (ltb maxFrame (length s)) (not (hasTrailer s)) (e8 .0) in
       let k = or-not (not (eqb (h .kind) 1 || eqb (h .kind) 2)) (not (eqb (h .reserved) 0)) (e9 .0) in
-      let a = or-not (not (eqb (h .n) n) || not (eqb (h .cap) cap) || not (ltb (h .from) n) || not (ltb (h .to) n)) (eqb (h .from) (h .to)) (e10 .0) in
-      let b = no-four (not (eqb (h .n) n)) (not (eqb (h .cap) cap)) (not (ltb (h .from) n)) (not (ltb (h .to) n)) (a .0) in
-      let c = no-four (not (eqb (8 + 6 * h .e + h .b) (countBack s))) (wrongBody h) (ltb cap (h .e)) (wrongEntries n h l) (e11 .0) in
+      let a = or-not (not (eqb (h .n) n) || wrongCap n h || not (ltb (h .from) n) || not (ltb (h .to) n)) (eqb (h .from) (h .to)) (e10 .0) in
+      let b = no-four (not (eqb (h .n) n)) (wrongCap n h) (not (ltb (h .from) n)) (not (ltb (h .to) n)) (a .0) in
+      let r = or-not (ltb (h .cap) n) (ltb (n * n) (h .cap)) (b .1) in
+      let c = no-four (not (eqb (8 + 6 * h .e + h .b) (countBack s))) (wrongBody h) (ltb (h .cap) (h .e)) (wrongEntries n h l) (e11 .0) in
       let d = or-not (ltb maxBody (h .b)) (eqb (h .kind) 2 && not (eqb (h .b) 0)) (c .1) in
       let f = and-T (eachOk n h l) (rising l) (not-not (eachOk n h l && rising l) (c .3)) in
       record {
@@ -103,19 +105,20 @@ module _ (n cap : ℕ) (s : List ℕ) where
             (or-T (eqb (h .kind) 1) (eqb (h .kind) 2) (not-not (eqb (h .kind) 1 || eqb (h .kind) 2) (k .0)));
         reserved = eqb→eq (h .reserved) 0 (not-not (eqb (h .reserved) 0) (k .1));
         sameN = eqb→eq (h .n) n (not-not (eqb (h .n) n) (b .0));
-        sameCap = eqb→eq (h .cap) cap (not-not (eqb (h .cap) cap) (b .1));
+        capFrom = nltb→le (h .cap) n (r .0);
+        capTo = nltb→le (n * n) (h .cap) (r .1);
         from = ltb→lt (h .from) n (not-not (ltb (h .from) n) (b .2));
         to = ltb→lt (h .to) n (not-not (ltb (h .to) n) (b .3));
         apart = neqb→ne (h .from) (h .to) (a .1);
         size = eqb→eq (8 + 6 * h .e + h .b) (countBack s) (not-not (eqb (8 + 6 * h .e + h .b) (countBack s)) (c .0));
         short = nltb→le maxBody (h .b) (d .0);
         bare = λ u. eqb→eq (h .b) 0 (if-not (eqb (h .kind) 2) (eqb (h .b) 0) (d .1) (eq→eqb (h .kind) 2 u));
-        few = nltb→le cap (h .e) (c .2);
+        few = nltb→le (h .cap) (h .e) (c .2);
         each = f .0;
         rise = f .1;
       }
 
-  pub kept-passes : Kept n cap s (header s) (entriesFrom s 0 (header s .e)) → frameRefusal n cap s ≡ 0
+  pub kept-passes : Kept n s (header s) (entriesFrom s 0 (header s .e)) → frameRefusal n s ≡ 0
   unfolding frameRefusal wrongTrailer wrongKind wrongAddress wrongContent wrongBody wrongEntries
   kept-passes k =
       let long = is-false (ltb (length s) 12) (le→nltb (length s) 12 (k .long)) in
@@ -124,7 +127,8 @@ module _ (n cap : ℕ) (s : List ℕ) where
       let kind = is-true (eqb (h .kind) 1 || eqb (h .kind) 2) (either (k .kind)) in
       let reserved = is-true (eqb (h .reserved) 0) (eq→eqb (h .reserved) 0 (k .reserved)) in
       let same = is-true (eqb (h .n) n) (eq→eqb (h .n) n (k .sameN)) in
-      let cap′ = is-true (eqb (h .cap) cap) (eq→eqb (h .cap) cap (k .sameCap)) in
+      let least = is-false (ltb (h .cap) n) (le→nltb (h .cap) n (k .capFrom)) in
+      let largest = is-false (ltb (n * n) (h .cap)) (le→nltb (n * n) (h .cap) (k .capTo)) in
       let from = is-true (ltb (h .from) n) (lt→ltb (h .from) n (k .from)) in
       let to = is-true (ltb (h .to) n) (lt→ltb (h .to) n (k .to)) in
       let apart = is-false (eqb (h .from) (h .to)) (ne→neqb (h .from) (h .to) (k .apart)) in
@@ -132,7 +136,7 @@ module _ (n cap : ℕ) (s : List ℕ) where
       let short = is-false (ltb maxBody (h .b)) (le→nltb maxBody (h .b) (k .short)) in
       let bare = is-false (eqb (h .kind) 2 && not (eqb (h .b) 0))
       (not-if (eqb (h .kind) 2) (eqb (h .b) 0) (λ t. eq→eqb (h .b) 0 (k .bare (eqb→eq (h .kind) 2 t)))) in
-      let few = is-false (ltb cap (h .e)) (le→nltb cap (h .e) (k .few)) in
+      let few = is-false (ltb (h .cap) (h .e)) (le→nltb (h .cap) (h .e) (k .few)) in
       rw (
         long,
         most,
@@ -140,7 +144,8 @@ module _ (n cap : ℕ) (s : List ℕ) where
         kind,
         reserved,
         same,
-        cap′,
+        least,
+        largest,
         from,
         to,
         apart,

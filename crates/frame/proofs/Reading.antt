@@ -33,15 +33,15 @@ kind-extra b (inl e) x =
     absurd (omega arith)
 kind-extra b (inr e) x = e
 
-module _ (n cap : ℕ) (s : List ℕ) (f : SoundFrame n cap s) where
+module _ (n : ℕ) (s : List ℕ) (f : SoundFrame n s) where
   abbrev h : Header
   h = header s
 
   abbrev l : List Entry
   l = entriesFrom s 0 (h .e)
 
-  abbrev k : Kept n cap s (header s) (entriesFrom s 0 (header s .e))
-  k = passes-kept n cap s (f .passes)
+  abbrev k : Kept n s (header s) (entriesFrom s 0 (header s .e))
+  k = passes-kept n s (f .passes)
 
   -- its entries are those of its matrix
   rules : Each (EntryKept n h) l
@@ -53,10 +53,10 @@ module _ (n cap : ℕ) (s : List ℕ) (f : SoundFrame n cap s) where
       (each-map (EntryKept n h) (λ a. place a < 144) inside l rules)
     where
       stands : (a : Entry) → EntryKept n h a → Stands 0 a
-      stands a q = record { column = omega (arith, q .column, f .range .atMost12); value = omega (arith, q .least); from = omega arith }
+      stands a q = record { column = omega (arith, q .column, f .atMost12); value = omega (arith, q .least); from = omega arith }
 
       inside : (a : Entry) → EntryKept n h a → place a < 144
-      inside a q = omega (arith, q .row, q .column, f .range .atMost12)
+      inside a q = omega (arith, q .row, q .column, f .atMost12)
 
   entry-count : length (entriesOf (matrixOf l)) ≡ h .e
   entry-count = ap length back ∙ length-from s (h .e) 0
@@ -73,12 +73,12 @@ module _ (n cap : ℕ) (s : List ℕ) (f : SoundFrame n cap s) where
   unfolding decode
   decode-sound =
       record {
-        range = rw (k .sameN, k .sameCap) (f .range);
+        range = rw (k .sameN) (record { atLeast2 = f .atLeast2; atMost12 = f .atMost12; capFrom = k .capFrom; capTo = k .capTo });
         from = rw (k .sameN) (k .from);
         to = rw (k .sameN) (k .to);
         apart = k .apart;
         entries = λ x y e. entry x y (look-each (EntryKept n h) l rules x y e);
-        few = rw (k .sameCap, ← length-entriesOf (matrixOf l), entry-count) (k .few);
+        few = rw (← length-entriesOf (matrixOf l), entry-count) (k .few);
         short = rw body-length (k .short);
         bare = λ e. rw (k .bare (kind-extra (h .kind) (k .kind) e));
         bytes = bytes-take (h .b) (drop (8 + 6 * h .e) s) (bytes-drop (8 + 6 * h .e) s (f .bytes));
@@ -95,9 +95,9 @@ module _ (n cap : ℕ) (s : List ℕ) (f : SoundFrame n cap s) where
             extraTo = λ e. q .extraTo (kind-extra (h .kind) (k .kind) e);
           }
 
-  pub decode-same : (decode s .n ≡ n) × (decode s .cap ≡ cap)
+  pub decode-same : decode s .n ≡ n
   unfolding decode
-  decode-same = (k .sameN, k .sameCap)
+  decode-same = k .sameN
 
   -- written again, its parts are the parts of the frame
   header-again : headerOf (decode s) ≡ header s

@@ -16,6 +16,6 @@ roundTrip =
       reads = decode-sound;
       same = decode-same;
       writtenAgain = encode-decode;
-      oneFrame = λ n cap s t f g e. sym (encode-decode n cap s f) ∙ ap encode e ∙ encode-decode n cap t g;
+      oneFrame = λ n s t f g e. sym (encode-decode n s f) ∙ ap encode e ∙ encode-decode n t g;
       oneMessage = λ m k f g e. sym (decode-encode m f) ∙ ap decode e ∙ decode-encode k g;
     }

@@ -155,7 +155,7 @@ module _ (m : Message) (s : Sound m) where
   front-short : length (front m) < 65536
   front-short = omega (arith, front-length m, few-121, s .short)
 
-  encode-kept : Kept (m .n) (m .cap) (encode m) (headerOf m) (entriesOf (m .entries))
+  encode-kept : Kept (m .n) (encode m) (headerOf m) (entriesOf (m .entries))
   unfolding headerOf encode
   encode-kept =
       record {
@@ -165,7 +165,8 @@ module _ (m : Message) (s : Sound m) where
         kind = kind-byte (m .kind);
         reserved = refl;
         sameN = refl;
-        sameCap = refl;
+        capFrom = s .range .capFrom;
+        capTo = s .range .capTo;
         from = s .from;
         to = s .to;
         apart = s .apart;
@@ -177,9 +178,9 @@ module _ (m : Message) (s : Sound m) where
         rise = ordered-rising 0 (entriesOf (m .entries)) (entries-ordered (m .entries));
       }
 
-  encode-passes : frameRefusal (m .n) (m .cap) (encode m) ≡ 0
+  encode-passes : frameRefusal (m .n) (encode m) ≡ 0
   unfolding headerOf
-  encode-passes = kept-passes (m .n) (m .cap) (encode m) (rw (header-encode m, entries-read) encode-kept)
+  encode-passes = kept-passes (m .n) (encode m) (rw (header-encode m, entries-read) encode-kept)
 
-  pub encode-sound : SoundFrame (m .n) (m .cap) (encode m)
-  encode-sound = record { range = s .range; bytes = encode-bytes; passes = encode-passes }
+  pub encode-sound : SoundFrame (m .n) (encode m)
+  encode-sound = record { atLeast2 = s .range .atLeast2; atMost12 = s .range .atMost12; bytes = encode-bytes; passes = encode-passes }

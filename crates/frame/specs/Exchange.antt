@@ -6,6 +6,6 @@ use Rattle.wire.specs.Exchange.{Unequal, exchanged}
 use Rattle.frame.specs.Refusals.{frameRefusal}
 use Rattle.frame.specs.RoundTrip.{SoundFrame}
 
--- a sound frame with any two unequal neighbours exchanged is refused with 8, whatever n and cap the record has
+-- a sound frame with any two unequal neighbours exchanged is refused with 8, whatever n the record has
 abbrev pub ExchangeMeets8 : Type 0
-ExchangeMeets8 = (n cap : ℕ) (s : List ℕ) → SoundFrame n cap s → (k : ℕ) → Unequal s k → (n′ cap′ : ℕ) → frameRefusal n′ cap′ (exchanged s k) ≡ 8
+ExchangeMeets8 = (n : ℕ) (s : List ℕ) → SoundFrame n s → (k : ℕ) → Unequal s k → (n′ : ℕ) → frameRefusal n′ (exchanged s k) ≡ 8

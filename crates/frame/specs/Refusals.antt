@@ -1,4 +1,4 @@
--- Why a run of bytes is no frame for a record with n and cap: document 01's refusals 8 to 11, each a predicate of its own.
+-- Why a run of bytes is no frame among n nodes: document 01's refusals 8 to 11, each a predicate of its own. A frame has its sender's cap, whatever the receiver's (document 02, (x)).
 use Prim.Native.Nat.{ℕ, _+_, _*_}
 use mathlib.Core.Bool.{Bool, true, not, cond, _&&_, _||_}
 use mathlib.Core.List.{List, [], _∷_}
@@ -19,10 +19,14 @@ wrongTrailer s = ltb (length s) 12 || ltb maxFrame (length s) || not (hasTrailer
 unfoldable pub wrongKind : Header → Bool
 wrongKind h = not (eqb (h .kind) 1 || eqb (h .kind) 2) || not (eqb (h .reserved) 0)
 
--- 10. The frame's n or cap is not the record's, from or to is not below n, or they are equal.
-unfoldable pub wrongAddress : ℕ → ℕ → Header → Bool
-wrongAddress n cap h =
-    not (eqb (h .n) n) || not (eqb (h .cap) cap) || not (ltb (h .from) n) || not (ltb (h .to) n) || eqb (h .from) (h .to)
+-- the rule of cap: n to n × n
+abbrev pub wrongCap : ℕ → Header → Bool
+wrongCap n h = ltb (h .cap) n || ltb (n * n) (h .cap)
+
+-- 10. The frame's n is not the record's, its cap breaks its rule, from or to is not below n, or they are equal.
+unfoldable pub wrongAddress : ℕ → Header → Bool
+wrongAddress n h =
+    not (eqb (h .n) n) || wrongCap n h || not (ltb (h .from) n) || not (ltb (h .to) n) || eqb (h .from) (h .to)
 
 -- the rule of b: 0 to 64, in an extra 0
 unfoldable pub wrongBody : Header → Bool
@@ -57,13 +61,13 @@ rising (a ∷ l) = risingAfter a l
 unfoldable pub wrongEntries : ℕ → Header → List Entry → Bool
 wrongEntries n h l = not (eachOk n h l && rising l)
 
--- 11. 8 + 6 × e + b is not the count pointed back, b breaks its rule, e exceeds cap, or an entry breaks a rule.
-unfoldable pub wrongContent : ℕ → ℕ → List ℕ → Bool
-wrongContent n cap s =
+-- 11. 8 + 6 × e + b is not the count pointed back, b breaks its rule, e exceeds the frame's cap, or an entry breaks a rule.
+unfoldable pub wrongContent : ℕ → List ℕ → Bool
+wrongContent n s =
     let h : Header = header s in
-    not (eqb (8 + 6 * h .e + h .b) (countBack s)) || wrongBody h || ltb cap (h .e) || wrongEntries n h (entriesFrom s 0 (h .e))
+    not (eqb (8 + 6 * h .e + h .b) (countBack s)) || wrongBody h || ltb (h .cap) (h .e) || wrongEntries n h (entriesFrom s 0 (h .e))
 
 -- the number of the first of these that is met, and 0 where none is
-unfoldable pub frameRefusal : ℕ → ℕ → List ℕ → ℕ
-frameRefusal n cap s =
-    cond (wrongTrailer s) 8 (cond (wrongKind (header s)) 9 (cond (wrongAddress n cap (header s)) 10 (cond (wrongContent n cap s) 11 0)))
+unfoldable pub frameRefusal : ℕ → List ℕ → ℕ
+frameRefusal n s =
+    cond (wrongTrailer s) 8 (cond (wrongKind (header s)) 9 (cond (wrongAddress n (header s)) 10 (cond (wrongContent n s) 11 0)))

@@ -7,7 +7,7 @@ ghost use lib.ListN.{length};
 ghost use Rattle.wire.specs.Trailer.{countBack};
 ghost use Rattle.frame.specs.Header.{header};
 ghost use Rattle.frame.specs.Entries.{entriesFrom};
-ghost use Rattle.frame.specs.Refusals.{wrongTrailer, wrongKind, wrongAddress, wrongBody, entryOk, wrongEntries, wrongContent, frameRefusal};
+ghost use Rattle.frame.specs.Refusals.{wrongTrailer, wrongKind, wrongCap, wrongAddress, wrongBody, entryOk, wrongEntries, wrongContent, frameRefusal};
 
 // 8: the length is not 12 to 802, or a trailer field is wrong.
 fn wrong_trailer(s: &[u8]) -> bool
@@ -35,14 +35,24 @@ fn wrong_kind(h: Header) -> bool
     h.kind != 2
 }
 
-// 10: n or cap is another, from or to is not below n, or they are equal.
-fn wrong_address(h: Header, n: u8, cap: u8) -> bool
-    ensures { λ r. ⌜ r ≡ wrongAddress n cap h ⌝ }
+// The cap is below n or above n * n.
+fn wrong_cap(h: Header, n: u8) -> bool
+    ensures { λ r. ⌜ r ≡ wrongCap n h ⌝ }
+{
+    if h.cap < n {
+        return true;
+    }
+    (n as u32) * (n as u32) < h.cap as u32
+}
+
+// 10: n is another, the cap breaks its rule, from or to is not below n, or they are equal.
+fn wrong_address(h: Header, n: u8) -> bool
+    ensures { λ r. ⌜ r ≡ wrongAddress n h ⌝ }
 {
     if h.n != n {
         return true;
     }
-    if h.cap != cap {
+    if wrong_cap(h, n) {
         return true;
     }
     if n <= h.from {
@@ -118,10 +128,10 @@ fn wrong_entries(s: &[u8], h: Header, n: u8) -> bool
     false
 }
 
-// 11: 8 + 6 * e + b is not the count pointed back, b breaks its rule, e exceeds cap, or an entry breaks a rule.
-fn wrong_content(s: &[u8], h: Header, n: u8, cap: u8) -> bool
+// 11: 8 + 6 * e + b is not the count pointed back, b breaks its rule, e exceeds the frame's cap, or an entry breaks a rule.
+fn wrong_content(s: &[u8], h: Header, n: u8) -> bool
     requires { ⌜ (h ≡ header (now s)) × (4 ≤ length (now s)) × (countBack (now s) ≡ length (now s) - 4) ⌝ }
-    ensures { λ r. ⌜ r ≡ wrongContent n cap (now (s .entry)) ⌝ }
+    ensures { λ r. ⌜ r ≡ wrongContent n (now (s .entry)) ⌝ }
 {
     if 8 + 6 * (h.e as usize) + h.b as usize != s.len() - 4 {
         return true;
@@ -129,15 +139,15 @@ fn wrong_content(s: &[u8], h: Header, n: u8, cap: u8) -> bool
     if wrong_body(h) {
         return true;
     }
-    if cap < h.e {
+    if h.cap < h.e {
         return true;
     }
     wrong_entries(s, h, n)
 }
 
-/// Why s, which may have any length, is no frame for a record with n and cap: 8, 9, 10 or 11, the first that is met, and 0 where s is a frame.
-pub fn refusal(s: &[u8], n: u8, cap: u8) -> u8
-    ensures { λ r. ⌜ r ≡ frameRefusal n cap (now (s .entry)) ⌝ }
+/// Why s, which may have any length, is no frame among n nodes: 8, 9, 10 or 11, the first that is met, and 0 where s is a frame.
+pub fn refusal(s: &[u8], n: u8) -> u8
+    ensures { λ r. ⌜ r ≡ frameRefusal n (now (s .entry)) ⌝ }
 {
     if wrong_trailer(s) {
         return 8;
@@ -146,10 +156,10 @@ pub fn refusal(s: &[u8], n: u8, cap: u8) -> u8
     if wrong_kind(h) {
         return 9;
     }
-    if wrong_address(h, n, cap) {
+    if wrong_address(h, n) {
         return 10;
     }
-    if wrong_content(s, h, n, cap) {
+    if wrong_content(s, h, n) {
         return 11;
     }
     0

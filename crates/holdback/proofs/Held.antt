@@ -63,16 +63,16 @@ unfolding frameIn
 header-frame slot e = header-take (ownLength (header slot)) slot (omega (arith, own-least (header slot))) (omega arith)
 
 -- bytes that pass 8 to 11 have their own length, and so does a frame in its slot
-pub passes-framed : (n cap : ℕ) (s : List ℕ) → frameRefusal n cap s ≡ 0 → Framed s
+pub passes-framed : (n : ℕ) (s : List ℕ) → frameRefusal n s ≡ 0 → Framed s
 unfolding ownLength
-passes-framed n cap s e =
-    let k = passes-kept n cap s e in
+passes-framed n s e =
+    let k = passes-kept n s e in
     let t = trailed s (k .trailer) in
     record { own = omega (arith, k .size, t .count, k .long); fits = k .most }
 
-pub own-fits : (n cap : ℕ) (slot : List ℕ) → length slot ≡ maxFrame → frameRefusal n cap (frameIn slot) ≡ 0 → ownLength (header slot) ≤ maxFrame
-own-fits n cap slot l e =
-    let f = passes-framed n cap (frameIn slot) e in
+pub own-fits : (n : ℕ) (slot : List ℕ) → length slot ≡ maxFrame → frameRefusal n (frameIn slot) ≡ 0 → ownLength (header slot) ≤ maxFrame
+own-fits n slot l e =
+    let f = passes-framed n (frameIn slot) e in
     omega (arith, f .own, f .fits, ap ownLength (header-frame slot l))
 
 -- what passing check 4 tells
@@ -91,15 +91,15 @@ queue-kept d held q e =
 
 -- a frame that meets none of 8 to 14
 pub record FrameKept (d : Node) (s : List ℕ) : Type 0 where
-  pub passes : frameRefusal (d .n) (d .cap) s ≡ 0
+  pub passes : frameRefusal (d .n) s ≡ 0
   pub arrives : arrivalRefusal d (decode s) ≡ 0
 
 pub frame-kept : (d : Node) (s : List ℕ) → T (not (heldRefused d s)) → FrameKept d s
 unfolding heldRefused
 frame-kept d s t =
-    let p = or-not (not (eqb (frameRefusal (d .n) (d .cap) s) 0)) (not (eqb (arrivalRefusal d (decode s)) 0)) t in
+    let p = or-not (not (eqb (frameRefusal (d .n) s) 0)) (not (eqb (arrivalRefusal d (decode s)) 0)) t in
     record {
-      passes = eqb→eq (frameRefusal (d .n) (d .cap) s) 0 (not-not (eqb (frameRefusal (d .n) (d .cap) s) 0) (p .0));
+      passes = eqb→eq (frameRefusal (d .n) s) 0 (not-not (eqb (frameRefusal (d .n) s) 0) (p .0));
       arrives = eqb→eq (arrivalRefusal d (decode s)) 0 (not-not (eqb (arrivalRefusal d (decode s)) 0) (p .1));
     }
 

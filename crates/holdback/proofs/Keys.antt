@@ -39,21 +39,21 @@ module _ (d : Node) (slot : List ℕ) (l : length slot ≡ maxFrame) where
   unfolding slotKey
   wrong-zero e = rw e
 
-  pub key-refused : (frameRefusal (d .n) (d .cap) s ≡ 0 → ⊥) → slotKey d slot ≡ 0
+  pub key-refused : (frameRefusal (d .n) s ≡ 0 → ⊥) → slotKey d slot ≡ 0
   unfolding wrongSlot heldRefused
-  key-refused p = wrong-zero (rw (ne-eqb (frameRefusal (d .n) (d .cap) s) 0 p))
+  key-refused p = wrong-zero (rw (ne-eqb (frameRefusal (d .n) s) 0 p))
 
   pub key-long : maxFrame < own → slotKey d slot ≡ 0
-  key-long h = key-refused (λ e. omega (arith, own-fits (d .n) (d .cap) slot l e))
+  key-long h = key-refused (λ e. omega (arith, own-fits (d .n) slot l e))
 
-  pub key-arrival : frameRefusal (d .n) (d .cap) s ≡ 0 → (arrivalRefusal d (decode s) ≡ 0 → ⊥) → slotKey d slot ≡ 0
+  pub key-arrival : frameRefusal (d .n) s ≡ 0 → (arrivalRefusal d (decode s) ≡ 0 → ⊥) → slotKey d slot ≡ 0
   unfolding wrongSlot heldRefused
-  key-arrival f p = wrong-zero (rw (eq-eqb (frameRefusal (d .n) (d .cap) s) 0 f, ne-eqb (arrivalRefusal d (decode s)) 0 p))
+  key-arrival f p = wrong-zero (rw (eq-eqb (frameRefusal (d .n) s) 0 f, ne-eqb (arrivalRefusal d (decode s)) 0 p))
 
-  module _ (h : own ≤ maxFrame) (f : frameRefusal (d .n) (d .cap) s ≡ 0) (a : arrivalRefusal d (decode s) ≡ 0) where
+  module _ (h : own ≤ maxFrame) (f : frameRefusal (d .n) s ≡ 0) (a : arrivalRefusal d (decode s) ≡ 0) where
     slot-test : wrongSlot d slot ≡ not (allZero (drop own slot))
     unfolding wrongSlot heldRefused frameIn
-    slot-test = rw (eq-eqb (frameRefusal (d .n) (d .cap) s) 0 f, eq-eqb (arrivalRefusal d (decode s)) 0 a, slot-zeros slot own l h)
+    slot-test = rw (eq-eqb (frameRefusal (d .n) s) 0 f, eq-eqb (arrivalRefusal d (decode s)) 0 a, slot-zeros slot own l h)
 
     pub key-padding : allZero (drop own slot) ≡ false → slotKey d slot ≡ 0
     key-padding z = wrong-zero (slot-test ∙ rw z)
@@ -131,7 +131,7 @@ unfolding wrongSlot
 small-slot d slot h e =
     let s : List ℕ = frameIn slot in
     let t = or-not (heldRefused d s) (not (sameBytes slot (padded s))) (of-false (heldRefused d s || not (sameBytes slot (padded s))) e) in
-    let k = passes-kept (d .n) (d .cap) s (frame-kept d s (t .0) .passes) in
+    let k = passes-kept (d .n) s (frame-kept d s (t .0) .passes) in
     omega (arith, k .from, decode-from s (header s) refl)
 
 pub small-held : (d : Node) (held : ℕ) (q : List ℕ) → d .n ≤ maxNodes → T (not (someWrong d held q)) → SmallFrom (heldMessages held q)

@@ -26,14 +26,14 @@ pub record HeldPart (q : List ℕ) (i end : ℕ) : Type 0 where
 pub queue-frame : (held : ℕ) (q : List ℕ) → CheckedQueue held q → (i : ℕ) → i < held → CheckedFrame (frameAt q i)
 queue-frame held q c i h =
     let k = held-kept (c .node) held q (queue-kept (c .node) held q (c .passes) .refused) i h in
-    record { n = c .node .n; cap = c .node .cap; few = c .few; passes = k .passes }
+    record { n = c .node .n; few = c .few; passes = k .passes }
 
 pub held-part : (held : ℕ) (q : List ℕ) (i end : ℕ) → CheckedQueue held q → i < held → end ≡ endOf q i → HeldPart q i end
 held-part held q i end c h e =
     let k = queue-frame held q c i h in
     let own : ℕ = ownLength (header (slotAt q i)) in
     let l : length (slotAt q i) ≡ maxFrame = length-slot q i (c .size) (omega (arith, c .most)) in
-    let f : own ≤ maxFrame = own-fits (k .n) (k .cap) (slotAt q i) l (k .passes) in
+    let f : own ≤ maxFrame = own-fits (k .n) (slotAt q i) l (k .passes) in
     let w : end - maxFrame * i ≡ own = omega arith in
     record {
       from = omega arith;

@@ -31,8 +31,8 @@ EachFrame P l = (h : ℕ) (s : List ℕ) → getElem? l h ≡ some s → P s
 kept-frame : (d : Node) (s : List ℕ) → FrameKept d s → T (not (heldRefused d s))
 unfolding heldRefused
 kept-frame d s k =
-    not-or (not (eqb (frameRefusal (d .n) (d .cap) s) 0)) (not (eqb (arrivalRefusal d (decode s)) 0))
-    (T-not-not (eqb (frameRefusal (d .n) (d .cap) s) 0) (eq→eqb (frameRefusal (d .n) (d .cap) s) 0 (k .passes)))
+    not-or (not (eqb (frameRefusal (d .n) s) 0)) (not (eqb (arrivalRefusal d (decode s)) 0))
+    (T-not-not (eqb (frameRefusal (d .n) s) 0) (eq→eqb (frameRefusal (d .n) s) 0 (k .passes)))
     (T-not-not (eqb (arrivalRefusal d (decode s)) 0) (eq→eqb (arrivalRefusal d (decode s)) 0 (k .arrives)))
 
 -- where each is one, it is not the case that some would meet one of 8 to 14, and the other way round
@@ -50,7 +50,7 @@ refused-none d (x ∷ l) t (suc h) s a = refused-none d l (or-not (heldRefused d
 -- each such frame has its own length, and fits its slot
 pub framed-all : (d : Node) (l : List (List ℕ)) → EachFrame (FrameKept d) l → EachFramed l
 framed-all d [] f = tt
-framed-all d (s ∷ l) f = (passes-framed (d .n) (d .cap) s (f 0 s refl .passes), framed-all d l (λ h t a. f (suc h) t a))
+framed-all d (s ∷ l) f = (passes-framed (d .n) s (f 0 s refl .passes), framed-all d l (λ h t a. f (suc h) t a))
 
 -- of messages that differ in from or number it is not the case that two agree, and the other way round
 none-alike : (l : List Message) → Apart l → T (not (someAlike l))

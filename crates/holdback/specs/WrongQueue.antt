@@ -20,8 +20,7 @@ sameBytes (a ∷ s) (b ∷ t) = eqb a b && sameBytes s t
 
 -- a held frame would meet one of 8 to 14
 unfoldable pub heldRefused : Node → List ℕ → Bool
-heldRefused d s =
-    not (eqb (frameRefusal (d .n) (d .cap) s) 0) || not (eqb (arrivalRefusal d (decode s)) 0)
+heldRefused d s = not (eqb (frameRefusal (d .n) s) 0) || not (eqb (arrivalRefusal d (decode s)) 0)
 
 -- some held frame would
 unfoldable pub someRefused : Node → List (List ℕ) → Bool

@@ -150,16 +150,16 @@ fn all_zero(s: &[u8]) -> bool
 }
 
 // The key of the frame in a slot, 16 * number + from, and 0 where the slot is wrong.
-fn slot_key(slot: &[u8], me: u8, n: u8, cap: u8, m: &[u32; 144], deliv: &[u32; 12]) -> u64
+fn slot_key(slot: &[u8], me: u8, n: u8, m: &[u32; 144], deliv: &[u32; 12]) -> u64
     requires { ⌜ (length (now slot) ≡ maxFrame) × (n ≤ maxNodes) ⌝ }
-    ensures { λ r. ⌜ r ≡ slotKey (nodeWith me n cap (now (m .entry)) (now (deliv .entry)) []) (now (slot .entry)) ⌝ }
+    ensures { λ r. ⌜ ((cap : ℕ) → r ≡ slotKey (nodeWith me n cap (now (m .entry)) (now (deliv .entry)) []) (now (slot .entry))) ⌝ }
 {
     let h = frame::header::read(slot);
     let len = frame::header::own_length(h);
     if wire::MAX_FRAME < len {
         return 0;
     }
-    if frame::check::refusal(&slot[..len], n, cap) != 0 {
+    if frame::check::refusal(&slot[..len], n) != 0 {
         return 0;
     }
     if arrival::refusal(&slot[..len], me, m, deliv) != 0 {
@@ -201,24 +201,16 @@ fn some_equal(keys: &[u64]) -> bool
 }
 
 /// Check 4: the queue is not laid out as it should be, a held frame would meet one of 8 to 14, or two held frames agree in from and number.
-pub fn wrong_queue(
-    q: &[u8],
-    held: usize,
-    me: u8,
-    n: u8,
-    cap: u8,
-    m: &[u32; 144],
-    deliv: &[u32; 12],
-) -> bool
+pub fn wrong_queue(q: &[u8], held: usize, me: u8, n: u8, m: &[u32; 144], deliv: &[u32; 12]) -> bool
     requires { ⌜ (length (now q) ≡ queueSize) × (held ≤ maxHeld) × (n ≤ maxNodes) ⌝ }
-    ensures { λ r. ⌜ r ≡ wrongQueue (nodeWith me n cap (now (m .entry)) (now (deliv .entry)) []) held (now (q .entry)) ⌝ }
+    ensures { λ r. ⌜ ((cap : ℕ) → r ≡ wrongQueue (nodeWith me n cap (now (m .entry)) (now (deliv .entry)) []) held (now (q .entry))) ⌝ }
 {
     let mut keys = [0u64; 16];
     let mut i: usize = 0;
     while i < held {
         let start = wire::MAX_FRAME * i;
         let stop = start + wire::MAX_FRAME;
-        let key = slot_key(&q[start..stop], me, n, cap, m, deliv);
+        let key = slot_key(&q[start..stop], me, n, m, deliv);
         if key == 0 {
             return true;
         }

@@ -188,10 +188,10 @@ module _ (i frame queue answer : List ℕ) where
   take-not-two =
       let r : Record = recordIn i in
       let d : Node = nodeAt r queue in
-      not-two (not (eqb (frameRefusal (r .n) (r .cap) frame) 0)) (frameRefusal (r .n) (r .cap) frame) (holdRefusal d (decode frame))
+      not-two (not (eqb (frameRefusal (r .n) frame) 0)) (frameRefusal (r .n) frame) (holdRefusal d (decode frame))
       (not-two (wrongTrailer frame) 8 _ (λ z. omega arith) (not-two (wrongKind (header frame)) 9 _ (λ z. omega arith)
-      (not-two (wrongAddress (r .n) (r .cap) (header frame)) 10 _ (λ z. omega arith)
-      (not-two (wrongContent (r .n) (r .cap) frame) 11 0 (λ z. omega arith) (λ z. omega arith)))))
+      (not-two (wrongAddress (r .n) (header frame)) 10 _ (λ z. omega arith)
+      (not-two (wrongContent (r .n) frame) 11 0 (λ z. omega arith) (λ z. omega arith)))))
       (not-two (notForMe d (decode frame)) 12 _ (λ z. omega arith) (not-two (claimsTooMuch d (decode frame)) 13 _ (λ z. omega arith)
       (not-two (deliveredBefore d (decode frame)) 14 _ (λ z. omega arith) (not-two (heldAlready d (decode frame)) 15 _ (λ z. omega arith)
       (not-two (noRoom d (decode frame)) 16 0 (λ z. omega arith) (λ z. omega arith))))))

@@ -7,10 +7,9 @@ use mathlib.Core.Path.{_∙_, _≡_, ap, refl, subst}
 use native.Mathlib.Omega.{arith}
 use lib.ListN.{drop, replicate, take}
 use Rattle.wire.proofs.Tests.{cond-elim}
-use Rattle.matrix.specs.Message.{InRange}
 use Rattle.rules.specs.Rules.{inRange}
 use Rattle.node.specs.SetUp.{setUp}
-use Rattle.causality.proofs.Examples.{after, story, story-bodies, story-events}
+use Rattle.causality.proofs.Examples.{after, caps, range, story, story-bodies, story-events}
 use Rattle.causality.specs.Demand3.{Event, Label, Step, delivery, refusal, start}
 use Rattle.host.specs.Exports.{SendLeft, exportedDeliver, exportedSend, exportedSetUp, sendLeft}
 use Rattle.image.specs.Image.{badImage}
@@ -82,7 +81,7 @@ strays-allowed r a w =
 
 -- ---- the theorem speaks of it
 
-set-ups : (me : ℕ) → me < 3 → exportedSetUp (lent me) me 3 3 .status ≡ 0
+set-ups : (me : ℕ) → me < 3 → exportedSetUp (lent me) me 3 (caps me) .status ≡ 0
 unfolding exportedSetUp setUp inRange
 set-ups zero h = refl
 set-ups (suc zero) h = refl
@@ -93,7 +92,7 @@ story-steps : stepsOf hostStory ≡ story
 unfolding hostStory story
 story-steps = refl
 
-pub story-keeps : HostKeeps 3 3 lent hostStory
+pub story-keeps : HostKeeps 3 caps lent hostStory
 unfolding hostStory story
 story-keeps =
     record {
@@ -102,24 +101,21 @@ story-keeps =
       few = omega arith;
       each =
           steps-allowed (take 4 story) (strays (steps (drop 4 story) []))
-          (strays-allowed (steps (drop 4 story) []) (steps-allowed (drop 4 story) [] (λ w. tt))) (hostStart lent 3 3);
+          (strays-allowed (steps (drop 4 story) []) (steps-allowed (drop 4 story) [] (λ w. tt))) (hostStart lent 3 caps);
     }
 
 abbrev hostAfter : HostWorld
-hostAfter = hostRun 3 (hostStart lent 3 3) hostStory
+hostAfter = hostRun 3 (hostStart lent 3 caps) hostStory
 
-range : InRange 3 3
-range = record { atLeast2 = omega arith; atMost12 = omega arith; capFrom = omega arith; capTo = omega arith }
-
-pub story-demand3 : HostDemand3For 3 3 hostAfter
-story-demand3 = hostDemand3 3 3 range lent hostStory story-keeps
+pub story-demand3 : HostDemand3For 3 caps hostAfter
+story-demand3 = hostDemand3 3 caps range lent hostStory story-keeps
 
 -- ---- what the host sees of it
 
 story-sees : Sees 3 hostAfter (after story)
 story-sees =
     subst (λ (l : List Step). Sees 3 hostAfter (after l)) story-steps
-    (run-sees 3 hostStory (hostStart lent 3 3) (start 3 3) (start-sees 3 3 lent set-ups) (story-keeps .each))
+    (run-sees 3 hostStory (hostStart lent 3 caps) (start 3 caps) (start-sees 3 caps lent set-ups) (story-keeps .each))
 
 -- no step is refused
 pub story-statuses : map (λ (e : Event). refusal (e .answer)) (seen hostAfter .history) ≡ replicate 10 0

@@ -27,7 +27,7 @@ use Rattle.host_causality.specs.HostDemand3.{HostDelivers, HostDemand3, 
 use Rattle.host_causality.specs.HostDemand3.{stepsOf}
 
 -- the host's world h, and the world w of the node's calls
-module _ (n cap : ℕ) (h : HostWorld) (w : World) (m : Sees n h w) where
+module _ (n : ℕ) (caps : ℕ → ℕ) (h : HostWorld) (w : World) (m : Sees n h w) where
   images : (i : ℕ) → i < n → SoundImage (h .images i)
   images i hi = subst SoundImage (sym (m .images i hi)) (imageLaws .written (w .records i) (sound n h w m i hi))
 
@@ -38,7 +38,7 @@ module _ (n cap : ℕ) (h : HostWorld) (w : World) (m : Sees n h w) where
       ap (λ (x : List ℕ). exportedSend x to class body out answer .status) (m .images i hi)
       ∙ send-shown (w .records i) (sound n h w m i hi) answer long i to class body out .0 .status
 
-  module _ (d : Demand3For n cap w) where
+  module _ (d : Demand3For n caps w) where
     abbrev Accepting : World → Type 0
     Accepting x =
         (p : ℕ) (g : Issue) → Earliest x p g → ¬ Held x p (g .frame) → heldAt x (destination (g .frame)) < maxHeld
@@ -48,7 +48,7 @@ module _ (n cap : ℕ) (h : HostWorld) (w : World) (m : Sees n h w) where
     accepting : Accepting (v n h w m)
     accepting p g e away room answer long =
         let j = destination (g .frame) in
-        let a = accepts-there n h w m cap d p g e away room in
+        let a = accepts-there n h w m caps d p g e away room in
         ap₂ (λ (i q : List ℕ). exportedOffer i (g .frame) q answer .status) (m .images j (a .0)) (m .queues j)
         ∙ offer-shown (w .records j) (sound n h w m j (a .0)) answer long j p (g .frame) (w .queues j) .0 .status ∙ a .1
 
@@ -82,13 +82,13 @@ module _ (n cap : ℕ) (h : HostWorld) (w : World) (m : Sees n h w) where
 
     delivering : Delivering (v n h w m)
     delivering p g e c =
-        let a = delivers-there n h w m cap d p g e c in
+        let a = delivers-there n h w m caps d p g e c in
         shown (destination (g .frame)) (a .0) (a .1)
 
-    host-world : ListRefusalsFor w → AcceptedOnceFor w → RightsFor n w → CeilingFor n (λ i. cap) w → FrameSizesFor n (λ i. cap) w → HostDemand3For n cap h
+    host-world : ListRefusalsFor w → AcceptedOnceFor w → RightsFor n w → CeilingFor n caps w → FrameSizesFor n caps w → HostDemand3For n caps h
     host-world r o k c s =
         record {
-          demand3 = turn n h w m (Demand3For n cap) (seen-demand3 n h w m cap d);
+          demand3 = turn n h w m (Demand3For n caps) (seen-demand3 n h w m caps d);
           accepts = turn n h w m Accepting accepting;
           delivers = turn n h w m Delivering delivering;
           permits =
@@ -99,14 +99,14 @@ module _ (n cap : ℕ) (h : HostWorld) (w : World) (m : Sees n h w) where
           refusals = turn n h w m ListRefusalsFor (seen-refusals n h w m r);
           acceptedOnce = turn n h w m AcceptedOnceFor (seen-once n h w m o);
           rights = turn n h w m (RightsFor n) (seen-rights n h w m k);
-          ceiling = turn n h w m (CeilingFor n (λ i. cap)) (seen-ceiling n h w m (λ i. cap) c);
-          sizes = turn n h w m (FrameSizesFor n (λ i. cap)) (record { user = s .user; extra = s .extra });
+          ceiling = turn n h w m (CeilingFor n caps) (seen-ceiling n h w m caps c);
+          sizes = turn n h w m (FrameSizesFor n caps) (record { user = s .user; extra = s .extra });
         }
 
 pub hostDemand3 : HostDemand3
-hostDemand3 n cap inside lent calls k =
+hostDemand3 n caps inside lent calls k =
     let l = stepsOf calls in
-    host-world n cap (hostRun n (hostStart lent n cap) calls) (run n (start n cap) l)
-    (run-sees n calls (hostStart lent n cap) (start n cap) (start-sees n cap lent (k .setUps)) (k .each))
-    (demand3 n cap inside l (k .bodies) (k .few)) (listRefusals n cap inside l (k .bodies) (k .few)) (acceptedOnce n cap inside l (k .bodies) (k .few))
-    (rightsKept n cap inside l (k .bodies) (k .few)) (ceiling n cap inside l (k .bodies) (k .few)) (frameSizes n cap inside l (k .bodies) (k .few))
+    host-world n caps (hostRun n (hostStart lent n caps) calls) (run n (start n caps) l)
+    (run-sees n calls (hostStart lent n caps) (start n caps) (start-sees n caps lent (k .setUps)) (k .each))
+    (demand3 n caps inside l (k .bodies) (k .few)) (listRefusals n caps inside l (k .bodies) (k .few)) (acceptedOnce n caps inside l (k .bodies) (k .few))
+    (rightsKept n caps inside l (k .bodies) (k .few)) (ceiling n caps inside l (k .bodies) (k .few)) (frameSizes n caps inside l (k .bodies) (k .few))

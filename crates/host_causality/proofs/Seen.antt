@@ -133,7 +133,7 @@ module _ (n : ℕ) (h : HostWorld) (w : World) (m : Sees n h w) where
   seen-queued : (j : ℕ) → j < n → queued v j ≡ queued w j
   seen-queued j h = ap₂ (λ (r : Record) (q : List ℕ). heldFrames (r .held) q) (same-record j h) (m .queues j)
 
-  module _ (cap : ℕ) (d : Demand3For n cap w) where
+  module _ (caps : ℕ → ℕ) (d : Demand3For n caps w) where
     -- the two promises of a next call, with the node that they speak of
     pub accepts-there : (p : ℕ) (g : Issue) → Earliest v p g → ¬ Held v p (g .frame) → heldAt v (destination (g .frame)) < maxHeld
         → (let j = destination (g .frame) in (j < n) × (offerNumber (offerCall (w .records j) (g .frame) (w .queues j) .result .answer) ≡ 0))
@@ -178,7 +178,7 @@ module _ (n : ℕ) (h : HostWorld) (w : World) (m : Sees n h w) where
           apart = λ k l s x y. a .apart k l s (there k s x) (there l s y);
         }
 
-    pub seen-demand3 : Demand3For n cap v
+    pub seen-demand3 : Demand3For n caps v
     seen-demand3 =
         record {
           causal =
@@ -189,7 +189,7 @@ module _ (n : ℕ) (h : HostWorld) (w : World) (m : Sees n h w) where
           once =
               λ p t u g a x y. d .once p t u g a (delivered-back (w .history) t (g .frame) x) (delivered-back (w .history) u (g .frame) y);
           distinct = d .distinct;
-          kept = λ i h. subst (λ (r : Record). count (entry (r .m)) ≤ cap) (sym (same-record i h)) (d .kept i h);
+          kept = λ i h. subst (λ (r : Record). count (entry (r .m)) ≤ caps i) (sym (same-record i h)) (d .kept i h);
           carried = d .carried;
           exists =
               λ p g a x. let r = d .exists p g a (λ y. x (some-there (g .frame) y)) in

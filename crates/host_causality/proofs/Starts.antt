@@ -52,17 +52,17 @@ no-node me n cap h =
     (λ t. absurd (omega (arith, ranged me n cap (is-true (inRange me n cap) t) .below)))
     (λ _. out-of-range 0 0 0 (entry (replicate 144 0)) (vector (replicate 12 0)) 0 refl)
 
-pub start-sees : (n cap : ℕ) (lent : ℕ → List ℕ) → ((me : ℕ) → me < n → exportedSetUp (lent me) me n cap .status ≡ 0)
-    → Sees n (hostStart lent n cap) (start n cap)
-start-sees n cap lent made =
+pub start-sees : (n : ℕ) (caps : ℕ → ℕ) (lent : ℕ → List ℕ) → ((me : ℕ) → me < n → exportedSetUp (lent me) me n (caps me) .status ≡ 0)
+    → Sees n (hostStart lent n caps) (start n caps)
+start-sees n caps lent made =
     record {
       nodes =
           λ i h. record {
-            state = handedBack .fresh i n cap (set-up-shown (lent i) i n cap (made i h) .0);
-            shape = set-up-shape i n cap;
+            state = handedBack .fresh i n (caps i) (set-up-shown (lent i) i n (caps i) (made i h) .0);
+            shape = set-up-shape i n (caps i);
           };
-      none = λ i h. no-node i n cap h;
-      images = λ i h. set-up-shown (lent i) i n cap (made i h) .1;
+      none = λ i h. no-node i n (caps i) h;
+      images = λ i h. set-up-shown (lent i) i n (caps i) (made i h) .1;
       queues = λ i. refl;
       log = refl;
       history = refl;

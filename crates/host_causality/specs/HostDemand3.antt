@@ -11,7 +11,7 @@ use lib.Dec.{eqb, ltb}
 use lib.ListN.{length, getD, getElem?, take}
 use Rattle.wire.specs.Limits.{maxBody, maxHeld}
 use Rattle.wire.specs.Bytes.{u16At, u32At}
-use Rattle.matrix.specs.Message.{InRange}
+use Rattle.matrix.specs.Message.{EachInRange}
 use Rattle.protocol.specs.Node.{update}
 use Rattle.holdback.specs.Slots.{queueSize, zeros}
 use Rattle.node.specs.declared.Delivered.{Delivered as DeliveredFrame}
@@ -203,16 +203,16 @@ EachAllowed n w [] = Unit {0}
 EachAllowed n w (c ∷ l) = Allowed w c × EachAllowed n (call n w c) l
 
 -- each node is set up once, on any bytes `lent me`, and has a queue of 12,832 zeros
-abbrev pub hostStart : (lent : ℕ → List ℕ) (n cap : ℕ) → HostWorld
-hostStart lent n cap = record { images = λ me. exportedSetUp (lent me) me n cap .image; queues = λ me. zeros queueSize; log = []; history = [] }
+abbrev pub hostStart : (lent : ℕ → List ℕ) (n : ℕ) (caps : ℕ → ℕ) → HostWorld
+hostStart lent n caps = record { images = λ me. exportedSetUp (lent me) me n (caps me) .image; queues = λ me. zeros queueSize; log = []; history = [] }
 
 -- what is asked of the host: no set-up is refused, the bodies that it sends are made of bytes, fewer than 1,000,000,000 of its calls are steps (there may be
 -- any number of stray calls), and each call is allowed
-pub record HostKeeps (n cap : ℕ) (lent : ℕ → List ℕ) (calls : List Call) : Type 0 where
-  pub setUps : (me : ℕ) → me < n → exportedSetUp (lent me) me n cap .status ≡ 0
+pub record HostKeeps (n : ℕ) (caps : ℕ → ℕ) (lent : ℕ → List ℕ) (calls : List Call) : Type 0 where
+  pub setUps : (me : ℕ) → me < n → exportedSetUp (lent me) me n (caps me) .status ≡ 0
   pub bodies : BodiesOfBytes (stepsOf calls)
   pub few : length (stepsOf calls) < 1000000000
-  pub each : EachAllowed n (hostStart lent n cap) calls
+  pub each : EachAllowed n (hostStart lent n caps) calls
 
 -- ---- What the host sees, in the words of demand 3
 
@@ -261,8 +261,8 @@ pub record HostDelivers (w : HostWorld) (j : ℕ) : Type 0 where
 -- images: no further call is refused with 20
 -- refusals: with which numbers the steps can be refused; acceptedOnce: no frame is accepted twice; rights: who may say what
 -- ceiling: how many extra frames are issued at most, by the extras that the answers' bytes report; sizes: how long frames are
-pub record HostDemand3For (n cap : ℕ) (w : HostWorld) : Type 0 where
-  pub demand3 : Demand3For n cap (seen w)
+pub record HostDemand3For (n : ℕ) (caps : ℕ → ℕ) (w : HostWorld) : Type 0 where
+  pub demand3 : Demand3For n caps (seen w)
   pub accepts : (p : ℕ) (g : Issue) → Earliest (seen w) p g → ¬ Held (seen w) p (g .frame) → heldAt (seen w) (destination (g .frame)) < maxHeld
       → (answer : List ℕ) → answerSize ≤ length answer
       → exportedOffer (w .images (destination (g .frame))) (g .frame) (w .queues (destination (g .frame))) answer .status ≡ 0
@@ -276,10 +276,10 @@ pub record HostDemand3For (n cap : ℕ) (w : HostWorld) : Type 0 where
   pub refusals : ListRefusalsFor (seen w)
   pub acceptedOnce : AcceptedOnceFor (seen w)
   pub rights : RightsFor n (seen w)
-  pub ceiling : CeilingFor n (λ i. cap) (seen w)
-  pub sizes : FrameSizesFor n (λ i. cap) (seen w)
+  pub ceiling : CeilingFor n caps (seen w)
+  pub sizes : FrameSizesFor n caps (seen w)
 
--- for every n from 2 to 12, every cap from n to n * n, and every list of calls of a host that keeps what is asked of it
+-- for every n from 2 to 12, any caps from n to n * n, one for each node, and every list of calls of a host that keeps what is asked of it
 abbrev pub HostDemand3 : Type 0
-HostDemand3 = (n cap : ℕ) → InRange n cap → (lent : ℕ → List ℕ) (calls : List Call) → HostKeeps n cap lent calls
-    → HostDemand3For n cap (hostRun n (hostStart lent n cap) calls)
+HostDemand3 = (n : ℕ) (caps : ℕ → ℕ) → EachInRange n caps → (lent : ℕ → List ℕ) (calls : List Call) → HostKeeps n caps lent calls
+    → HostDemand3For n caps (hostRun n (hostStart lent n caps) calls)

@@ -3,13 +3,14 @@
 use Prim.Native.Nat.{_*_, _+_, _-_, _<_, _≤_, suc, ℕ}
 use mathlib.Core.Logic.{_≢_}
 use mathlib.Core.Path.{_≡_, _∙_, ap}
+use native.Mathlib.Decide.{decLt}
 use native.Mathlib.Nat.{mul-le-mul, mul-suc}
 use native.Mathlib.Omega.{arith}
 use lib.ListN.{getD}
 use Rattle.matrix.proofs.Array.{count-flat}
 use Rattle.matrix.proofs.Columns.{MatrixRules, column-zero}
 use Rattle.matrix.proofs.Matrix.{nonZero-le, nonZero-none, only-col, only-zero}
-use Rattle.matrix.proofs.Sums.{sum-at, sum-cut, sum-ext, sum-less, sum-ones, sum-single}
+use Rattle.matrix.proofs.Sums.{sum-at, sum-cut, sum-ext, sum-less, sum-less-two, sum-ones, sum-single}
 use Rattle.matrix.specs.Array.{flat}
 use Rattle.matrix.specs.Matrix.{Matrix, columnCount, count, nonZero, only}
 use Rattle.matrix.specs.Message.{InRange}
@@ -47,6 +48,24 @@ count-121 i m h diagonal own = count-square 12 i m h (omega arith) (λ x y a b. 
 pub rules-square : (n me : ℕ) (m : Matrix) → me < n → n ≤ 12 → MatrixRules n me m → count m ≤ (n - 1) * (n - 1)
 rules-square n me m h twelve f = count-square n me m h twelve (λ x y a _. f .rows x y a) (λ x y a _. f .columns x y a) (f .diagonal) (f .own)
 
+-- and at most n - 1 in a column
+pub rules-column : (n me : ℕ) (m : Matrix) → me < n → n ≤ 12 → MatrixRules n me m → (y : ℕ) → columnCount m y ≤ n - 1
+rules-column n me m h twelve f y = go (decLt y n)
+  where
+    go : Dec (y < n) → columnCount m y ≤ n - 1
+    go (yes l) = column-most n me m h twelve (λ x y a _. f .rows x y a) (λ x y a _. f .columns x y a) (f .diagonal) (f .own) y l
+    go (no l) = omega (arith, column-zero m y (λ x. f .columns x y (omega arith)))
+
+-- a matrix with another zero column than its own has at most ten columns of at most eleven
+pub count-110 : (n me l : ℕ) (m : Matrix) → me < n → n ≤ 12 → MatrixRules n me m → l < n → l ≢ me → columnCount m l ≡ 0 → count m ≤ 110
+unfolding count
+count-110 n me l m h twelve f hl ne z =
+    omega (
+      arith,
+      sum-less-two 12 11 me l (columnCount m) (omega arith) (omega arith) ne (column-zero m me (f .own)) z
+          (λ y _. omega (arith, rules-column n me m h twelve f y)),
+    )
+
 -- where one column alone has any, at most n - 1
 pub rules-lone : (n me l : ℕ) (m : Matrix) → me < n → n ≤ 12 → MatrixRules n me m → l < n → ((x y : ℕ) → y ≢ l → m x y ≡ 0) → count m ≤ n - 1
 unfolding count
@@ -54,7 +73,7 @@ rules-lone n me l m h twelve f hl lone =
     omega (
       arith,
       sum-single 12 l (columnCount m) (λ y ne. column-zero m y (λ x. lone x y ne)),
-      column-most n me m h twelve (λ x y a _. f .rows x y a) (λ x y a _. f .columns x y a) (f .diagonal) (f .own) l hl,
+      rules-column n me m h twelve f l,
     )
 
 -- a column alone has the entries of that column

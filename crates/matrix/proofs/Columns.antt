@@ -1,5 +1,5 @@
 -- Counts of the columns of a matrix, the rules of a node's matrix, and what the steps do to both.
-use Prim.Native.Nat.{ℕ, suc, _+_, _-_, _≤_, _<_}
+use Prim.Native.Nat.{ℕ, suc, _+_, _*_, _-_, _≤_, _<_}
 use mathlib.Core.Bool.{cond}
 use mathlib.Core.Logic.{_≢_}
 use mathlib.Core.Path.{_≡_, sym, ap, _∙_}
@@ -7,7 +7,7 @@ use native.Mathlib.Decide.{ℕ-discrete, decLe}
 use native.Mathlib.Omega.{arith}
 use lib.Dec.{leb, le→leb}
 use Rattle.matrix.proofs.Matrix.{largest-lt, largest-le, clear-mine, clear-gone, clear-keep, only-col, only-zero, merge-kept, merge-own, nonZero-le}
-use Rattle.matrix.proofs.Sums.{sum-ext, sum-at, sum-cut, sum-less, sum-ones, sum-le, sum-change, sum-single}
+use Rattle.matrix.proofs.Sums.{sum-above, sum-ext, sum-at, sum-cut, sum-less, sum-ones, sum-le, sum-change, sum-single, sum-times}
 use Rattle.matrix.specs.Matrix.{Matrix, sum, nonZero, columnCount, count, fullest, clear, only, merge}
 use Rattle.wire.proofs.Tests.{cond-elim, cond-yes, cond-no, lt→nleb}
 
@@ -197,3 +197,26 @@ crowded-few n me m hi hn f =
       sum-cut 12 n (wide m) hn (λ y h _. wide-no m y (omega (arith, column-zero m y (λ x. f .columns x y h)))),
       sum-less n 1 me (wide m) hi (wide-no m me (omega (arith, column-zero m me (f .own)))) (λ y _. wide-le m y),
     )
+
+-- where no column has more than ten entries, each such column has nine besides the one that each of eleven may have
+crowded-ten : (me : ℕ) (m : Matrix) → me < 12 → ((x : ℕ) → m x me ≡ 0) → ((y : ℕ) → y < 12 → columnCount m y ≤ 10) → count m ≤ 11 + 9 * crowded m
+unfolding count crowded
+crowded-ten me m hi own ten =
+    omega (
+      arith,
+      sum-above 12 (columnCount m) (λ y. 9 * wide m y),
+      sum-times 12 9 (wide m),
+      sum-less 12 1 me (λ y. columnCount m y - 9 * wide m y) hi (omega (arith, column-zero m me own)) (λ y h. one y h (decLe 2 (columnCount m y))),
+    )
+  where
+    one : (y : ℕ) → y < 12 → Dec (2 ≤ columnCount m y) → columnCount m y - 9 * wide m y ≤ 1
+    one y h (yes l) = omega (arith, ten y h, wide-yes m y l)
+    one y h (no l) = omega arith
+
+-- so where there are more, the fullest column has more than ten
+pub fullest-eleven : (me : ℕ) (m : Matrix) → me < 12 → ((x : ℕ) → m x me ≡ 0) → 11 + 9 * crowded m < count m → 10 < columnCount m (fullest m)
+fullest-eleven me m hi own h = go (decLe (columnCount m (fullest m)) 10)
+  where
+    go : Dec (columnCount m (fullest m) ≤ 10) → 10 < columnCount m (fullest m)
+    go (yes l) = absurd (omega (arith, crowded-ten me m hi own (λ y q. omega (arith, fullest-le m y q))))
+    go (no l) = omega arith

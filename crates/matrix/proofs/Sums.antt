@@ -1,12 +1,15 @@
 -- Laws of the sum f 0 + .. + f (k - 1). Assumes nothing.
 use Prim.Native.Nat.{_%_, _*_, _+_, _-_, _/_, _<_, _≤_, suc, zero, ℕ}
+use mathlib.Core.Bool.{cond}
 use mathlib.Core.Logic.{_≢_}
 use mathlib.Core.Path.{_∙_, _≡_, ap, refl, sym}
 use native.Mathlib.Decide.{decLe, ℕ-discrete}
-use native.Mathlib.Nat.{add-zero, not-suc-le-zero}
+use native.Mathlib.Nat.{add-zero, mul-add, not-suc-le-zero}
 use native.Mathlib.Numerals.{add-one}
 use native.Mathlib.Omega.{arith}
+use lib.Dec.{eqb}
 use Rattle.matrix.specs.Matrix.{sum}
+use Rattle.wire.proofs.Tests.{cond-elim, cond-other, cond-same}
 
 -- one term more, in the form `k + 1` of the code
 pub sum-more : (k : ℕ) (f : ℕ → ℕ) → sum (k + 1) f ≡ sum k f + f k
@@ -115,6 +118,28 @@ sum-short (suc k) c l f h z b = go (λ (p : l < k). sum-short k c l f p z (λ x 
 
 pub sum-less : (k c l : ℕ) (f : ℕ → ℕ) → l < k → f l ≡ 0 → ((x : ℕ) → x < k → f x ≤ c) → sum k f ≤ c * k - c
 sum-less k c l f h z b = omega (arith, sum-short k c l f h z b)
+
+-- two terms of which are zero: with c in the place of one, the other is zero still
+pub sum-less-two : (k c a b : ℕ) (f : ℕ → ℕ) → a < k → b < k → b ≢ a → f a ≡ 0 → f b ≡ 0 → ((x : ℕ) → x < k → f x ≤ c) → sum k f + c + c ≤ c * k
+sum-less-two k c a b f ha hb ne za zb h =
+    omega (
+      arith,
+      sum-change k a g f ha (λ y q. cond-other y a c (f y) q),
+      cond-same a c (f a),
+      sum-short k c b g hb (cond-other b a c (f b) ne ∙ zb) (λ x l. cond-elim (λ (z : ℕ). z ≤ c) (eqb x a) c (f x) (λ _. omega arith) (λ _. h x l)),
+    )
+  where
+    g : ℕ → ℕ
+    g x = cond (eqb x a) c (f x)
+
+-- a sum is at most another with what its terms have above the other's
+pub sum-above : (k : ℕ) (f g : ℕ → ℕ) → sum k f ≤ sum k g + sum k (λ x. f x - g x)
+sum-above zero f g = omega arith
+sum-above (suc k) f g = omega (arith, sum-above k f g)
+
+pub sum-times : (k c : ℕ) (f : ℕ → ℕ) → sum k (λ x. c * f x) ≡ c * sum k f
+sum-times zero c f = omega arith
+sum-times (suc k) c f = omega (arith, sum-times k c f, mul-add c (sum k f) (f k))
 
 -- a sum whose terms from n on are zero
 pub sum-cut : (k n : ℕ) (f : ℕ → ℕ) → n ≤ k → ((x : ℕ) → n ≤ x → x < k → f x ≡ 0) → sum k f ≡ sum n f

@@ -43,6 +43,10 @@ pub record InRange (n cap : ℕ) : Type 0 where
   pub capFrom : n ≤ cap
   pub capTo : cap ≤ n * n
 
+-- a cap for each of n nodes, which may differ (document 02, (x)), each in range
+abbrev pub EachInRange : ℕ → (ℕ → ℕ) → Type 0
+EachInRange n caps = (i : ℕ) → i < n → InRange n (caps i)
+
 -- the rules of an entry (x, y) that is not zero: row and column below n and unequal, column ≠ from,
 -- value at most 1,000,000,000, and in an extra the column is to
 pub record SoundEntry (m : Message) (x y : ℕ) : Type 0 where

@@ -8,8 +8,9 @@ use native.Mathlib.Omega.{arith}
 use borrow.Author.Tests.{le-ltb, lt-ltb, ne-eqb}
 use lib.Dec.{T, eqb, ltb, nltb→le}
 use lib.ListN.{length, length-map}
-use Rattle.node.proofs.Shared.{RecordPassed, checked-queue, held-carried, queue-laid, record-met, record-passed, record-past}
+use Rattle.node.proofs.Shared.{RecordPassed, checked-queue, held-arrives, held-carried, queue-laid, record-met, record-passed, record-past}
 use Rattle.node.proofs.Offering.{length-messages}
+use Rattle.arrival.proofs.Arrived.{Arrives}
 use Rattle.arrival.specs.View.{nodeWith}
 use Rattle.frame.proofs.Carried.{Carried}
 use Rattle.frame.specs.Frame.{decode}
@@ -122,6 +123,7 @@ pub record Ready (r : Record) (q : List ℕ) (out body : ℕ) : Type 0 where
   pub queue : CheckedQueue (r .held) q
   pub layout : q ≡ laid (heldFrames (r .held) q)
   pub carries : (i : ℕ) → i < r .held → Carried (r .n) (decode (frameAt q i))
+  pub arrived : (i : ℕ) → i < r .held → Arrives (nodeOf r []) (decode (frameAt q i))
   pub free : T (not (atLimit (nodeAt r q)))
 
 pub deliver-ready : (r : Record) (q : List ℕ) (out body : ℕ) → deliverRefusal r q (shortOutputs out body) ≡ 0 → Ready r q out body
@@ -136,6 +138,7 @@ deliver-ready r q out body e =
       queue = checked-queue r q (shortOutputs out body) p;
       layout = queue-laid r q (shortOutputs out body) p;
       carries = held-carried r q (shortOutputs out body) p;
+      arrived = held-arrives r q (shortOutputs out body) p;
       free = skipped (atLimit (nodeAt r q)) 5 0 (omega arith) (sym (record-past r q (shortOutputs out body) _ p) ∙ e) .0;
     }
 

@@ -73,7 +73,7 @@ offer-by-refusal r s q =
     let m = decode s in
     let o = holding d m in
     by-record r s q d o refl (brokenRecord r) (not (eqb (length q) queueSize)) (wrongQueue (nodeOf r []) (r .held) q) _ _
-    (by-frame r s q d o refl (frameRefusal (r .n) (r .cap) s) (holdRefusal d m) _
+    (by-frame r s q d o refl (frameRefusal (r .n) s) (holdRefusal d m) _
     (by-protocol r s q d o refl (notForMe d m) (claimsTooMuch d m) (deliveredBefore d m) (heldAlready d m) (noRoom d m)))
 
 -- a refused offer, and an accepted one
@@ -84,11 +84,11 @@ pub offer-accepted : (r : Record) (s q : List ℕ) → offerRefusal r s q ≡ 0 
 offer-accepted r s q e = sym (offer-by-refusal r s q ∙ rw e)
 
 -- a check of the frame, and of the protocol, gives the refusal of the offer, whatever else is lent
-pub take-frame : (r : Record) (s q : List ℕ) (short : Bool) → RecordPassed r q short → (k : ℕ) → k ≡ frameRefusal (r .n) (r .cap) s → (k ≡ 0 → ⊥)
+pub take-frame : (r : Record) (s q : List ℕ) (short : Bool) → RecordPassed r q short → (k : ℕ) → k ≡ frameRefusal (r .n) s → (k ≡ 0 → ⊥)
     → k ≡ recordRefusal r q short (takeRefusal r s q)
 take-frame r s q short p k e h = sym (record-past r q short _ p ∙ rw (← e, ne-eqb k 0 h))
 
-pub take-hold : (r : Record) (s q : List ℕ) (short : Bool) → RecordPassed r q short → frameRefusal (r .n) (r .cap) s ≡ 0
+pub take-hold : (r : Record) (s q : List ℕ) (short : Bool) → RecordPassed r q short → frameRefusal (r .n) s ≡ 0
     → recordRefusal r q short (takeRefusal r s q) ≡ holdRefusal (nodeAt r q) (decode s)
 take-hold r s q short p e = record-past r q short _ p ∙ rw e
 
@@ -174,12 +174,12 @@ pub record Holdable (r : Record) (s q : List ℕ) : Type 0 where
   pub queue : q ≡ laid (heldFrames (r .held) q)
   pub size : length q ≡ queueSize
 
-pub holdable : (r : Record) (s q : List ℕ) → RecordPassed r q false → frameRefusal (r .n) (r .cap) s ≡ 0
+pub holdable : (r : Record) (s q : List ℕ) → RecordPassed r q false → frameRefusal (r .n) s ≡ 0
     → holdRefusal (nodeAt r q) (decode s) ≡ 0 → Holdable r s q
 holdable r s q p f h =
     record {
       room = below16 (ℕ-discrete (r .held) 16);
-      fits = (passes-kept (r .n) (r .cap) s f) .most;
+      fits = (passes-kept (r .n) s f) .most;
       queue = queue-laid r q false p;
       size = p .size;
     }
@@ -190,19 +190,19 @@ holdable r s q p f h =
 
 -- what an offer that is not refused passed
 pub record Offerable (r : Record) (s q : List ℕ) : Type 0 where
-  pub frame : frameRefusal (r .n) (r .cap) s ≡ 0
+  pub frame : frameRefusal (r .n) s ≡ 0
   pub hold : HoldPassed (nodeAt r q) (decode s)
   pub holdable : Holdable r s q
 
 pub offerable : (r : Record) (s q : List ℕ) → offerRefusal r s q ≡ 0 → Offerable r s q
 unfolding offerRefusal
-offerable r s q e = go (ℕ-discrete (frameRefusal (r .n) (r .cap) s) 0)
+offerable r s q e = go (ℕ-discrete (frameRefusal (r .n) s) 0)
   where
     p : RecordPassed r q false
     p = record-passed r q false _ e
 
-    go : Dec (frameRefusal (r .n) (r .cap) s ≡ 0) → Offerable r s q
+    go : Dec (frameRefusal (r .n) s ≡ 0) → Offerable r s q
     go (yes z) =
         let h : holdRefusal (nodeAt r q) (decode s) ≡ 0 = sym (take-hold r s q false p z) ∙ e in
         record { frame = z; hold = hold-passed (nodeAt r q) (decode s) h; holdable = holdable r s q p z h }
-    go (no z) = absurd (z (take-frame r s q false p (frameRefusal (r .n) (r .cap) s) refl z ∙ e))
+    go (no z) = absurd (z (take-frame r s q false p (frameRefusal (r .n) s) refl z ∙ e))

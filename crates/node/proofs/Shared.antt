@@ -7,6 +7,7 @@ use native.Mathlib.Omega.{arith}
 use borrow.Author.Tests.{eq-eqb, ne-eqb}
 use lib.Dec.{eqb, eqb→eq}
 use lib.ListN.{length}
+use Rattle.arrival.proofs.Arrived.{Arrives, arrives}
 use Rattle.frame.proofs.Carried.{Carried, carried}
 use Rattle.frame.specs.Frame.{decode}
 use Rattle.holdback.proofs.Held.{held-kept, queue-kept}
@@ -96,6 +97,12 @@ module _ (r : Record) (q : List ℕ) (short : Bool) where
   pub checked-queue : RecordPassed → CheckedQueue (r .held) q
   checked-queue p = record { node = nodeOf r []; few = p .sound .range .atMost12; most = p .sound .room; size = p .size; passes = p .queue }
 
+  -- each held message meets none of 12 to 14
+  pub held-arrives : RecordPassed → (i : ℕ) → i < r .held → Arrives (nodeOf r []) (decode (frameAt q i))
+  held-arrives p i h =
+      let d = nodeOf r [] in
+      arrives d (decode (frameAt q i)) (held-kept d (r .held) q (queue-kept d (r .held) q (p .queue) .refused) i h .arrives)
+
   pub queue-laid : RecordPassed → q ≡ laid (heldFrames (r .held) q)
   queue-laid p = queue-kept (nodeOf r []) (r .held) q (p .queue) .queue
 
@@ -103,4 +110,4 @@ module _ (r : Record) (q : List ℕ) (short : Bool) where
   pub held-carried : RecordPassed → (i : ℕ) → i < r .held → Carried (r .n) (decode (frameAt q i))
   held-carried p i h =
       let d = nodeOf r [] in
-      carried (r .n) (r .cap) (frameAt q i) (held-kept d (r .held) q (queue-kept d (r .held) q (p .queue) .refused) i h .passes)
+      carried (r .n) (frameAt q i) (held-kept d (r .held) q (queue-kept d (r .held) q (p .queue) .refused) i h .passes)

@@ -107,7 +107,7 @@ pub record Bodied (s : List ℕ) (h : Header) : Type 0 where
 
 pub bodied : (s : List ℕ) (h : Header) → CheckedFrame s → h ≡ header s → Bodied s h
 bodied s h c e =
-    let k = passes-kept (c .n) (c .cap) s (c .passes) in
+    let k = passes-kept (c .n) s (c .passes) in
     let b : ℕ = header s .b in
     let a : ℕ = 8 + 6 * header s .e in
     let i : a + b ≤ length s = omega (arith, k .size, k .long, trailed s (k .trailer) .count) in

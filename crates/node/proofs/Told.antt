@@ -1,7 +1,7 @@
 -- What the answer of a call tells of what the call left: the frames that it wrote, and that its numbers are small. Assumes nothing.
 use Prim.Native.Nat.{ℕ, suc, _+_, _-_, _*_, _≤_, _<_}
 use mathlib.Core.List.{List, [], _∷_}
-use mathlib.Core.Path.{_≡_, refl, subst, sym}
+use mathlib.Core.Path.{_∙_, _≡_, refl, subst, sym}
 use native.Mathlib.Decide.{ℕ-discrete}
 use native.Mathlib.Omega.{arith}
 use lib.ListN.{length, length-append}
@@ -11,8 +11,7 @@ use Rattle.wire.specs.Limits.{maxBody, maxCount, maxNodes}
 use Rattle.matrix.specs.Array.{entry}
 use Rattle.matrix.specs.Matrix.{Matrix, clear, merge}
 use Rattle.matrix.specs.Message.{Kind, user, extra, Message, userMessage}
-use Rattle.frame.proofs.Frames.{frames-nil, length-frames}
-use Rattle.frame.proofs.Written.{length-encode}
+use Rattle.frame.proofs.Frames.{frames-nil}
 use Rattle.frame.specs.Frame.{decode}
 use Rattle.frame.specs.Frames.{framesOf}
 use Rattle.frame.specs.Header.{header, kindByte}
@@ -30,8 +29,9 @@ use Rattle.protocol.specs.Offer.{deliverable}
 use Rattle.protocol.specs.Send.{sending}
 use Rattle.protocol.specs.Trim.{trimFor}
 use Rattle.trim.proofs.Bounds.{trim-1008}
+use Rattle.trim.proofs.Outputs.{delivery-bytes, send-bytes}
 use Rattle.node.proofs.Cases.{deliver-cases, offer-cases, send-cases}
-use Rattle.node.proofs.Sending.{frame-room, sendable}
+use Rattle.node.proofs.Sending.{sendable}
 use Rattle.node.proofs.Offering.{length-messages, offerable}
 use Rattle.node.proofs.Delivering.{Ready, deliver-ready, searched}
 use Rattle.node.proofs.Taking.{bodied, entries-limit, from-below}
@@ -62,7 +62,7 @@ pub record SentFacts (out o : List ℕ) (bytes extras : ℕ) : Type 0 where
   pub wrote : Wrote out o bytes issued
   pub many : length issued ≡ 1 + extras
   pub few : extras ≤ 1
-  pub most : bytes ≤ 1810
+  pub most : bytes ≤ 814
 
 -- what a send leaves in the output, by its answer
 abbrev pub SendTold : List ℕ → SendAnswer → AfterSend → Type 0
@@ -83,8 +83,9 @@ send-told r to class body out = send-cases (λ (c : AfterSend). SendTold out (c 
         let s = k .sound in
         let one : length others ≤ 1
         = send-one (nodeOf r []) (s .range .below) (s .range .atMost12) (s .range .capFrom) (s .rules) to (k .destination) (k .other) (s .few) in
-        let most : length (framesOf (first ∷ others)) ≤ 1810
-        = omega (arith, length-frames first others, length-encode first, frame-room k, k .short, trim-1008 (r .me) (r .n) (r .cap) (clear (r .me) to m)) in
+        let most : length (framesOf (first ∷ others)) ≤ 814
+        = send-bytes (nodeOf r []) (s .range .below) (s .range .atMost12) (s .range .capFrom) (s .rules) (s .few) to body (k .destination) (k .other)
+        (k .short) in
         record {
           issued = first ∷ others;
           wrote = record { frames = refl; size = refl; inside = omega (arith, most, length-put out 0 (framesOf (first ∷ others)), k .long) };
@@ -134,7 +135,7 @@ pub record DeliveredFacts (n : ℕ) (out o : List ℕ) (d : Delivered) : Type 0 
   pub wrote : Wrote out o (d .bytes) issued
   pub many : length issued ≡ d .extras
   pub few : d .extras ≤ n - 1
-  pub most : d .bytes ≤ 1008
+  pub most : d .bytes ≤ 846
   pub body : d .body ≤ maxBody
   pub tried : d .tried ≤ 16
   pub kind : (0 < d .kind) × (d .kind ≤ 2)
@@ -164,6 +165,17 @@ module _ (r : Record) (q out body : List ℕ) where
       of-kind (g .kind) _ (r .n - 1)
       (delivery-most (nodeAt r q) (s .range .below) (s .range .atMost12) (s .range .capFrom) (s .rules) (g .entries) (g .from) (k .carries j h .rules) (g .kind))
 
+  -- and how many bytes: the frame claims no more of the own row than stands there
+  bytes : {o b : ℕ} → Ready r q o b → (j : ℕ) → j < r .held
+      → (let g : Message = decode (frameAt q j) in length (framesOf (learn (g .kind) (nodeAt r q) (g .entries) .extras)) ≤ 846)
+  bytes k j h =
+      let g : Message = decode (frameAt q j) in
+      let s = k .sound in
+      let c = k .carries j h in
+      let a = k .arrived j h in
+      delivery-bytes (nodeAt r q) (s .range .below) (s .range .atMost12) (s .range .capFrom) (s .rules) (s .few) (g .from) (g .entries) (c .from)
+      (λ z. c .apart (z ∙ sym (a .here))) (c .rules) (a .claims) (g .kind)
+
   by-search : Ready r q (length out) (length body) → by (searched r q)
   by-search k = go (ℕ-discrete (placeOf (searched r q)) 0)
     where
@@ -180,7 +192,7 @@ module _ (r : Record) (q out body : List ℕ) where
           let sound = queue-frame (r .held) q (k .queue) j (x .0) in
           let g : Message = decode (frameAt q j) in
           let l : List Message = learn (g .kind) (nodeAt r q) (g .entries) .extras in
-          let most : length (framesOf l) ≤ 1008 = learn-room (g .kind) (nodeAt r q) (g .entries) in
+          let most : length (framesOf l) ≤ 846 = bytes k j (x .0) in
           subst by (sym (x .1))
           record {
             nodes = k .sound .range .atMost12;

@@ -34,6 +34,17 @@ deliverNumber (deliver.Refused k) = k
 deliverNumber (deliver.Nothing tried) = 0
 deliverNumber (deliver.Frame d) = 0
 
+-- how many bytes of the frame output send's answer counts
+abbrev pub sendBytes : SendAnswer → ℕ
+sendBytes (send.Refused k) = 0
+sendBytes (send.Sent bytes extras) = bytes
+
+-- deliver's
+abbrev pub deliverBytes : DeliverAnswer → ℕ
+deliverBytes (deliver.Refused k) = 0
+deliverBytes (deliver.Nothing tried) = 0
+deliverBytes (deliver.Frame d) = d .bytes
+
 -- what the caller of send holds: answer and record, and the frame output
 pub record AfterSend : Type 0 where
   pub result : Sent

@@ -47,7 +47,7 @@ recordRefusal r q short k =
 
 -- those of a frame that is offered: 8 to 11, 12 to 16
 abbrev pub takeRefusal : Record → List ℕ → List ℕ → ℕ
-takeRefusal r s q = cond (not (eqb (frameRefusal (r .n) (r .cap) s) 0)) (frameRefusal (r .n) (r .cap) s) (holdRefusal (nodeAt r q) (decode s))
+takeRefusal r s q = cond (not (eqb (frameRefusal (r .n) s) 0)) (frameRefusal (r .n) s) (holdRefusal (nodeAt r q) (decode s))
 
 -- offer: 2 to 4, 8 to 11, 12 to 16; it is lent the queue alone
 unfoldable pub offerRefusal : Record → List ℕ → List ℕ → ℕ

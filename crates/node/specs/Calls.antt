@@ -114,7 +114,7 @@ offerCall r s q =
     cond (brokenRecord r) (refuseOffer 2 r q)
     (cond (not (eqb (length q) queueSize)) (refuseOffer 3 r q)
     (cond (wrongQueue (nodeOf r []) (r .held) q) (refuseOffer 4 r q)
-    (cond (not (eqb (frameRefusal (r .n) (r .cap) s) 0)) (refuseOffer (frameRefusal (r .n) (r .cap) s) r q)
+    (cond (not (eqb (frameRefusal (r .n) s) 0)) (refuseOffer (frameRefusal (r .n) s) r q)
     (cond (accepted (o .answer)) (acceptOffer r s q o) (refuseOffer (refusal (o .answer)) r q)))))
 
 -- ---- deliver

@@ -28,7 +28,7 @@ pub fn record_refusal<'a>(
     if queue.len() != Node::QUEUE_SIZE {
         return 3;
     }
-    if holdback::wrong_queue(queue, held as usize, me, n, cap, m, deliv) {
+    if holdback::wrong_queue(queue, held as usize, me, n, m, deliv) {
         return 4;
     }
     0

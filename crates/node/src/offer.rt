@@ -86,7 +86,7 @@ pub fn judge<'a>(
     if why != 0 {
         return Verdict { why, ready: false };
     }
-    let bad = frame::check::refusal(frame, n, cap);
+    let bad = frame::check::refusal(frame, n);
     if bad != 0 {
         return Verdict {
             why: bad,

@@ -1,21 +1,17 @@
--- Demand 3 on messages holds; with a cap for each node too.
-use Prim.Native.Nat.{ℕ, _<_}
-use mathlib.Core.List.{List}
+-- Demand 3 on messages holds.
+use Prim.Native.Nat.{_<_}
 use mathlib.Core.Path.{refl, sym, _∙_}
 use native.Mathlib.Omega.{arith}
 use lib.ListN.{length}
-use Rattle.matrix.specs.Message.{InRange}
 use Rattle.protocol.proofs.Good.{Good}
 use Rattle.protocol.proofs.Liveness.{exists, queue-agrees, accepts-first, delivers-first}
 use Rattle.protocol.proofs.Runs.{run-good, run-length, start-good}
 use Rattle.protocol.specs.Answer.{label}
 use Rattle.protocol.specs.Demand3.{Demand3For, Demand3}
-use Rattle.protocol.specs.World.{Step, World, start, run}
+use Rattle.protocol.specs.World.{World, start, run}
 
--- for any caps in range, one for each node
-pub demand3-caps : (n : ℕ) (caps : ℕ → ℕ) → ((k : ℕ) → k < n → InRange n (caps k)) → (steps : List Step) → length steps < 1000000000
-    → Demand3For n caps (run n (start n caps) steps)
-demand3-caps n caps range steps few = record {
+pub demand3 : Demand3
+demand3 n caps range steps few = record {
   causal = g .invariant .causal;
   once =
       λ p t u f a x y. g .invariant .once t u (x .event) (y .event) (label (f .message)) (label (f .message)) (x .at) (y .at) (x .names)
@@ -37,7 +33,3 @@ demand3-caps n caps range steps few = record {
 
     short : length (w .history) < 1000000000
     short = omega (arith, run-length n (start n caps) steps)
-
--- for one cap
-pub demand3 : Demand3
-demand3 n cap range steps few = demand3-caps n (λ i. cap) (λ k h. range) steps few

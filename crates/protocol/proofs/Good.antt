@@ -8,7 +8,7 @@ use mathlib.Core.Path.{_≡_, subst, fun-ext}
 use lib.ListN.{length, getElem?}
 use Rattle.matrix.proofs.Columns.{MatrixRules}
 use Rattle.matrix.specs.Matrix.{Matrix, count}
-use Rattle.matrix.specs.Message.{extra, Message, number, InRange}
+use Rattle.matrix.specs.Message.{extra, Message, number, EachInRange}
 use Rattle.protocol.proofs.Origins.{Apart}
 use Rattle.protocol.proofs.State.{State, Invariant}
 use Rattle.protocol.specs.Answer.{accepted}
@@ -79,7 +79,7 @@ Kept d m = (number m ≤ d .deliv (m .from)) ⊎ ((h : ℕ) × (getElem? (d .hel
 
 -- a world of n nodes with these caps; taken: what an accepted offer took is delivered or in the queue
 pub record Good (n : ℕ) (caps : ℕ → ℕ) (w : World) : Type 0 where
-  pub range : (k : ℕ) → k < n → InRange n (caps k)
+  pub range : EachInRange n caps
   pub invariant : Invariant (stateOf w)
   pub node : (k : ℕ) → k < n → SoundNode n (caps k) (w .log) (w .history) k (w .nodes k)
   pub sound : (p : ℕ) (g : Issue) → IssueAt w p g → SoundIssue n caps (g .message)

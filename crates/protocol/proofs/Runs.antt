@@ -7,7 +7,7 @@ use native.Mathlib.Omega.{arith}
 use lib.Dec.{ltb→lt, ltb}
 use lib.ListN.{length, getElem?}
 use Rattle.matrix.specs.Matrix.{columnCount, count}
-use Rattle.matrix.specs.Message.{InRange}
+use Rattle.matrix.specs.Message.{EachInRange}
 use Rattle.protocol.proofs.Good.{stateOf, Good}
 use Rattle.protocol.proofs.Lists.{at-none, length-snoc}
 use Rattle.protocol.proofs.Offering.{offer-good}
@@ -74,7 +74,7 @@ unfolding count columnCount
 count-zero = refl
 
 -- the fresh nodes
-pub start-good : (n : ℕ) (caps : ℕ → ℕ) → ((k : ℕ) → k < n → InRange n (caps k)) → Good n caps (start n caps)
+pub start-good : (n : ℕ) (caps : ℕ → ℕ) → EachInRange n caps → Good n caps (start n caps)
 start-good n caps range = record {
   range = range;
   invariant = invariant₀;

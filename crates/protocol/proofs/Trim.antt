@@ -1,5 +1,5 @@
 -- Trim: twelve rounds are enough, it ends within the cap, and it issues at most one message to each destination, one in a round; what it issues is extra.
-use Prim.Native.Nat.{ℕ, zero, suc, _+_, _-_, _≤_, _<_}
+use Prim.Native.Nat.{ℕ, zero, suc, _+_, _*_, _-_, _≤_, _<_}
 use mathlib.Core.Bool.{not, cond}
 use mathlib.Core.List.{List, [], _∷_}
 use mathlib.Core.Logic.{_⊎_, inl, inr, _≢_}
@@ -9,7 +9,8 @@ use native.Mathlib.Decide.{ℕ-discrete, decLe}
 use native.Mathlib.Omega.{arith}
 use lib.Dec.{T, leb, leb→le, le→leb, nleb→lt}
 use lib.ListN.{getElem?, length}
-use Rattle.matrix.proofs.Columns.{MatrixRules, fullest-lt, fullest-two, two-below, two-other, clear-rules, clear-one}
+use Rattle.matrix.proofs.Bounds.{rules-column}
+use Rattle.matrix.proofs.Columns.{MatrixRules, fullest-eleven, fullest-lt, fullest-two, two-below, two-other, clear-rules, clear-one}
 use Rattle.matrix.proofs.Columns.{clear-count, clear-same, crowded, crowded-le, crowded-down, crowded-some}
 use Rattle.matrix.proofs.Cleared.{clear-lower, clear-row}
 use Rattle.matrix.proofs.Matrix.{clear-mine, clear-keep}
@@ -147,6 +148,26 @@ trim-excess (suc k) n me cap m hi hn hc f =
       clear-count me (fullest m) m (omega arith) (fullest-lt m),
       trim-excess k n me cap (clear me (fullest m) m) hi hn hc (c .rules),
     ))
+
+-- in so full a matrix the fullest column has eleven entries, of which a round takes ten off: j rounds are enough for 10 * j above the cap
+pub trim-full : (k j n me cap : ℕ) (m : Matrix) → me < n → n ≤ 12 → n ≤ cap → MatrixRules n me m → crowded m ≤ suc j → 10 * j + 20 ≤ count m
+    → count m ≤ cap + 10 * j → length (trimFor k me n cap m .extras) ≤ j
+unfolding trimFor
+trim-full k zero n me cap m hi hn hc f few least most = omega (arith, trim-excess k n me cap m hi hn hc f)
+trim-full zero (suc j) n me cap m hi hn hc f few least most = omega arith
+trim-full (suc k) (suc j) n me cap m hi hn hc f few least most =
+    cond-elim (λ (t : Trimmed). length (t .extras) ≤ suc j) (leb (count m) cap) (untouched m)
+    (issuing (extraMessage me (fullest m) n cap m) (trimFor k me n cap (clear me (fullest m) m)))
+    (λ _. omega arith)
+    (λ t. let c = full n me cap m hi hc f (nleb→lt (count m) cap t) in
+    let less : crowded (clear me (fullest m) m) ≤ suc j = omega (arith, crowded-down me (fullest m) m (omega arith) (fullest-lt m) (c .two)) in
+    let ten : count (clear me (fullest m) m) + 10 ≡ count m = omega (
+      arith,
+      clear-count me (fullest m) m (omega arith) (fullest-lt m),
+      fullest-eleven me m (omega arith) (f .own) (omega arith),
+      rules-column n me m hi hn f (fullest m),
+    ) in
+    omega (arith, trim-full k j n me cap (clear me (fullest m) m) hi hn hc (c .rules) less (omega arith) (omega arith)))
 
 -- and each clears another column of two entries or more: no more are issued than there are such columns
 pub rounds-crowded : (n cap me : ℕ) (m : Matrix) (extras : List Message) (m′ : Matrix) → me < n → n ≤ 12 → Rounds n cap me m extras m′

@@ -9,7 +9,7 @@ use lib.Dec.{eqb}
 use lib.ListN.{length, getElem?}
 use Rattle.wire.specs.Limits.{maxHeld}
 use Rattle.matrix.specs.Matrix.{count}
-use Rattle.matrix.specs.Message.{user, Message, number, InRange}
+use Rattle.matrix.specs.Message.{user, Message, number, EachInRange}
 use Rattle.protocol.specs.Answer.{label, Answer, refused, sent, taken, nothing, delivered, accepted, delivery}
 use Rattle.protocol.specs.Offer.{offer}
 use Rattle.protocol.specs.Deliver.{deliver}
@@ -80,7 +80,7 @@ pub record DeliversNew (w : World) (j : ℕ) : Type 0 where
 -- what demand 3 says of the world that a list of steps of n nodes with these caps leads to
 -- causal: of two user messages to one node, the first sent before the second, the second is delivered only after the first
 -- once: no message is delivered twice; distinct: from, to and number name one issued message
--- kept, carried: at most cap entries of a kept and of a carried matrix are non-zero
+-- kept, carried: a kept matrix has at most its node's cap of non-zero entries, a carried one at most its sender's
 -- exists: where a message is undelivered, there is an earliest such message
 -- accepts: where that one is not held, and fewer than 16 are held at its destination, an offer of it there is accepted
 -- delivers: where it is held, or 16 are held there, a deliver there delivers a message that was not delivered before
@@ -100,6 +100,6 @@ pub record Demand3For (n : ℕ) (caps : ℕ → ℕ) (w : World) : Type 0 where
   pub delivers : (p : ℕ) (g : Issue) → Earliest w p g → Held w p (g .message) ⊎ (heldAt w (g .message .to) ≡ maxHeld) → DeliversNew w (g .message .to)
   pub queue : (j : ℕ) → j < n → QueueAgrees w j
 
--- demand 3: for every n from 2 to 12, every cap from n to n * n, one for all nodes, and every list of fewer than 1,000,000,000 steps
+-- demand 3: for every n from 2 to 12, any caps from n to n * n, one for each node, and every list of fewer than 1,000,000,000 steps
 abbrev pub Demand3 : Type 0
-Demand3 = (n cap : ℕ) → InRange n cap → (steps : List Step) → length steps < 1000000000 → Demand3For n (λ i. cap) (run n (start n (λ i. cap)) steps)
+Demand3 = (n : ℕ) (caps : ℕ → ℕ) → EachInRange n caps → (steps : List Step) → length steps < 1000000000 → Demand3For n caps (run n (start n caps) steps)

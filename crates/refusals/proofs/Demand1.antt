@@ -159,8 +159,8 @@ offer-first : (r : Record) (s q : List ℕ) → offerRefusal r s q ≡ firstMet 
 unfolding offerRefusal recordRefusal frameRefusal holdRefusal
 offer-first r s q =
     ap (λ (k : ℕ). cond (brokenRecord r) 2 (cond (not (eqb (length q) queueSize)) 3 (cond (wrongQueue (nodeOf r []) (r .held) q) 4 k)))
-    (frame-checks (wrongTrailer s) (wrongKind (header s)) (wrongAddress (r .n) (r .cap) (header s))
-    (wrongContent (r .n) (r .cap) s) (holdRefusal (nodeAt r q) (decode s)))
+    (frame-checks (wrongTrailer s) (wrongKind (header s)) (wrongAddress (r .n) (header s))
+    (wrongContent (r .n) s) (holdRefusal (nodeAt r q) (decode s)))
 
 offer-by : (r : Record) (s q : List ℕ)
     → offerCall r s q ≡ cond (eqb (firstMet (offerChecks r s q)) 0) (acceptOffer r s q (holding (nodeAt r q) (decode s)))

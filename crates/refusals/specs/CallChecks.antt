@@ -70,8 +70,8 @@ hostSendChecks i to class body out answer =
 -- behind the buffers: 4. The shelf is not laid out as above, a held frame would meet one of 8 to 14, or two held frames agree in from and number.
 -- 8. The frame's length is not 12 to 802, or either trailer field is wrong.
 -- 9. Kind is not 1 or 2, or byte 7 is not zero.
--- 10. The frame's n or cap is not the record's, from or to is not below n, or they are equal.
--- 11. 8 + 6 × e + b is not the count pointed back, b breaks its rule, e exceeds cap, or an entry breaks a rule.
+-- 10. The frame's n is not the record's, its cap is not n to n × n (document 02, (x)), from or to is not below n, or they are equal.
+-- 11. 8 + 6 × e + b is not the count pointed back, b breaks its rule, e exceeds the frame's cap, or an entry breaks a rule.
 -- 12. to is not me.
 -- 13. An entry in row me exceeds M there.
 -- 14. The number is at most DELIV[from].
@@ -82,8 +82,8 @@ offerRest r s q =
     check 4 (wrongQueue (nodeOf r []) (r .held) q)
     ∷ check 8 (wrongTrailer s)
     ∷ check 9 (wrongKind (header s))
-    ∷ check 10 (wrongAddress (r .n) (r .cap) (header s))
-    ∷ check 11 (wrongContent (r .n) (r .cap) s)
+    ∷ check 10 (wrongAddress (r .n) (header s))
+    ∷ check 11 (wrongContent (r .n) s)
     ∷ check 12 (notForMe (nodeAt r q) (decode s))
     ∷ check 13 (claimsTooMuch (nodeAt r q) (decode s))
     ∷ check 14 (deliveredBefore (nodeAt r q) (decode s))
@@ -131,7 +131,7 @@ hostDeliverChecks i q out body answer =
 abbrev pub loadChecks : (input : List ℕ) → List Check
 loadChecks input = check 18 (refused18 input) ∷ []
 
--- the trail's write: 19. The frame to write would meet one of 8 to 11 with its own n and cap taken for the record's, or has these out of 1's range.
+-- the trail's write: 19. The frame to write would meet one of 8 to 11 with its own n taken for the record's, or has this out of 1's range.
 -- 3, after 19. It doesn't fit.
 abbrev pub writeChecks : (file : List ℕ) → ℕ → (frame : List ℕ) → List Check
 writeChecks file used frame = check 19 (unsound frame) ∷ check 3 (noRoomFor file used frame) ∷ []

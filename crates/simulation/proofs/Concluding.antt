@@ -29,11 +29,11 @@ use Rattle.simulation.specs.declared.Taken.{Taken}
 use Rattle.simulation.proofs.Facts.{StepFacts}
 
 -- the outcome and the world of a step are stored
-abbrev pub Told : (n cap k : ℕ) (a : AfterStep) (o : Outcome) (s : Stored) (q l : List ℕ) → Type 0
-Told n cap k a o s q l = (o ≡ a .outcome) × Holds n cap maxIssues (k + 1) (a .world) s q l
+abbrev pub Told : (n : ℕ) (caps : ℕ → ℕ) (k : ℕ) (a : AfterStep) (o : Outcome) (s : Stored) (q l : List ℕ) → Type 0
+Told n caps k a o s q l = (o ≡ a .outcome) × Holds n caps maxIssues (k + 1) (a .world) s q l
 
-module _ (n cap k : ℕ) (v : World) (w : Stored) (q l : List ℕ) (h : Holds n cap maxIssues k v w q l) (x : ℕ) (a : AfterStep) (f : StepFacts x v a)
-    (s : Stepped) (q′ l′ : List ℕ) (told : Told n cap k a (s .outcome) (storedBy w s) q′ l′) where
+module _ (n : ℕ) (caps : ℕ → ℕ) (k : ℕ) (v : World) (w : Stored) (q l : List ℕ) (h : Holds n caps maxIssues k v w q l) (x : ℕ) (a : AfterStep) (f : StepFacts x v a)
+    (s : Stepped) (q′ l′ : List ℕ) (told : Told n caps k a (s .outcome) (storedBy w s) q′ l′) where
   abbrev g : List (List ℕ)
   g = frames (a .world .log)
 
@@ -79,19 +79,19 @@ module _ (n cap k : ℕ) (v : World) (w : Stored) (q l : List ℕ) (h : Holds n 
       shown _ _ at end o o′ (sym (ap₂ (λ (i : ℕ) (y : Outcome). printedBy x (issueRows (i + 1) (drop i g)) y) (h .issued) (told .0))) (d .0) (d .1)
 
 -- the line is taken
-module _ (n cap k : ℕ) (z : State) (w : Stored) (t : Counters) (q l : List ℕ) (h : Holds n cap maxIssues k (z .world) w q l) (counters : t ≡ z .counters)
+module _ (n : ℕ) (caps : ℕ → ℕ) (k : ℕ) (z : State) (w : Stored) (t : Counters) (q l : List ℕ) (h : Holds n caps maxIssues k (z .world) w q l) (counters : t ≡ z .counters)
     (x : ℕ)
     (a : AfterStep) (f : StepFacts x (z .world) a)
-    (s : Stepped) (q′ l′ : List ℕ) (told : Told n cap k a (s .outcome) (storedBy w s) q′ l′) where
+    (s : Stepped) (q′ l′ : List ℕ) (told : Told n caps k a (s .outcome) (storedBy w s) q′ l′) where
   pub took-step : (r : Taken) (at : ℕ) (o o′ : List ℕ) → r .yard .world ≡ storedBy w s → r .yard .counters ≡ countedBy t (s .outcome)
       → ((g : List (List ℕ)) → InLog (w .issued) (s .issued) (w .end) l′ g
       → Wrote (printedBy x (issueRows (w .issued + 1) (drop (w .issued) g)) (s .outcome)) at o (r .end) o′)
-      → Took n cap k (afterStep z x a) at o r q′ l′ o′
+      → Took n caps k (afterStep z x a) at o r q′ l′ o′
   took-step r at o o′ ew ec p =
-      let d = printed-told n cap k (z .world) w q l h x a f s q′ l′ told at (r .end) o o′ p in
+      let d = printed-told n caps k (z .world) w q l h x a f s q′ l′ told at (r .end) o o′ p in
       record {
         stands = record {
-          world = subst (λ (y : Stored). Holds n cap maxIssues (k + 1) (a .world) y q′ l′) (sym ew) (told .1);
+          world = subst (λ (y : Stored). Holds n caps maxIssues (k + 1) (a .world) y q′ l′) (sym ew) (told .1);
           counters = ec ∙ ap₂ countedBy counters (told .0);
         };
         end = d .0;
@@ -99,14 +99,14 @@ module _ (n cap k : ℕ) (z : State) (w : Stored) (t : Counters) (q l : List ℕ
       }
 
 -- another line: nothing but the refusal is printed
-pub took-other : (n cap k : ℕ) (z : State) (y : StoredState) (q l : List ℕ) → Stands n cap maxIssues k z y q l → (at end : ℕ) (o o′ : List ℕ)
+pub took-other : (n : ℕ) (caps : ℕ → ℕ) (k : ℕ) (z : State) (y : StoredState) (q l : List ℕ) → Stands n caps maxIssues k z y q l → (at end : ℕ) (o o′ : List ℕ)
     → end ≡ at + length (refusalRow 17) → o′ ≡ put o at (refusalRow 17)
-    → Took n cap k (line n z command.Other) at o (record { yard = y; end = end }) q l o′
+    → Took n caps k (line n z command.Other) at o (record { yard = y; end = end }) q l o′
 unfolding line
-took-other n cap k z y q l s at end o o′ e b =
-    record { stands = record { world = holds-later n cap maxIssues k (z .world) (y .world) q l (s .world); counters = s .counters }; end = e; bytes = b }
+took-other n caps k z y q l s at end o o′ e b =
+    record { stands = record { world = holds-later n caps maxIssues k (z .world) (y .world) q l (s .world); counters = s .counters }; end = e; bytes = b }
 
 -- the line of a command that the text is
-pub took-as : (n cap k : ℕ) (z : State) (c d : Command) → d ≡ c → (at : ℕ) (o : List ℕ) (r : Taken) (q l o′ : List ℕ) → Took n cap k (line n z c) at o r q l o′
-    → Took n cap k (line n z d) at o r q l o′
-took-as n cap k z c d e at o r q l o′ t = subst (λ (x : Command). Took n cap k (line n z x) at o r q l o′) (sym e) t
+pub took-as : (n : ℕ) (caps : ℕ → ℕ) (k : ℕ) (z : State) (c d : Command) → d ≡ c → (at : ℕ) (o : List ℕ) (r : Taken) (q l o′ : List ℕ) → Took n caps k (line n z c) at o r q l o′
+    → Took n caps k (line n z d) at o r q l o′
+took-as n caps k z c d e at o r q l o′ t = subst (λ (x : Command). Took n caps k (line n z x) at o r q l o′) (sym e) t

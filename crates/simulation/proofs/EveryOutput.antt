@@ -12,10 +12,11 @@ use Rattle.text.proofs.Pieces.{split-few}
 use Rattle.text.specs.Pieces.{split}
 use Rattle.text.specs.Print.{refusalRow}
 use Rattle.commands.specs.Commands.{command}
-use Rattle.commands.specs.FirstLine.{firstLine}
+use Rattle.commands.specs.FirstLine.{firstLine, given}
 use Rattle.commands.specs.declared.FirstLine.{FirstLine}
-use Rattle.commands.specs.declared.FirstLine.the-variants as first
-use Rattle.world.specs.Start.{startable}
+use Rattle.commands.specs.declared.Form.{Form}
+use Rattle.commands.specs.declared.Form.the-variants as form
+use Rattle.world.specs.Start.{capOf, startable}
 use Rattle.counting.specs.State.{State, opened}
 use Rattle.simulation.specs.EveryYard.{EveryOutput, Totalled, afterLines}
 use Rattle.simulation.specs.Yard.{AfterLine, alone, line, lines, maxInput, ofLines, output, started, totalRow}
@@ -41,40 +42,40 @@ ends n y (m ∷ ls) l =
 
 module _ (s : List ℕ) (h : length s ≤ maxInput) (l p : List ℕ) (ps : List (List ℕ)) (e : split 10 s ≡ l ∷ p ∷ ps) where
   -- what the lines behind the first one print
-  by-first : (f : FirstLine) → firstLine l ≡ f → output s ≡ started f (p ∷ ps)
-  by-first f g = output-lines s h ∙ ap ofLines e ∙ lines-first l (p ∷ ps) (omega arith) ∙ ap (λ (x : FirstLine). started x (p ∷ ps)) g
+  by-first : (f : FirstLine) → firstLine l ≡ f → output s ≡ started (f .form) (f .caps) (p ∷ ps)
+  by-first f g = output-lines s h ∙ ap ofLines e ∙ lines-first l (p ∷ ps) (omega arith) ∙ ap (λ (x : FirstLine). started (x .form) (x .caps) (p ∷ ps)) g
 
-  totalled : (n cap : ℕ) → firstLine l ≡ first.Sizes n cap → startable n (cap ∷ cap ∷ cap ∷ cap ∷ []) ≡ true → Totalled s
-  totalled n cap g start =
+  totalled : (n : ℕ) (caps : List ℕ) → firstLine l ≡ given n caps → startable n caps ≡ true → Totalled s
+  totalled n caps g start =
       let a = last-apart p ps in
-      let t = ends n (opened n cap) (a .0) (a .1) in
+      let t = ends n (opened n (capOf caps)) (a .0) (a .1) in
       record {
         first = l;
         lines = a .0;
         behind = a .1;
         pieces = e ∙ ap (λ (x : List (List ℕ)). l ∷ x) (a .2);
         n = n;
-        cap = cap;
+        caps = caps;
         sizes = g;
         rows = t .0;
-        printed = by-first (first.Sizes n cap) g ∙ started-yes n cap (p ∷ ps) start ∙ ap (lines n (opened n cap)) (a .2) ∙ t .1;
-        ofList = everyYard n cap start (a .0)
+        printed = by-first (given n caps) g ∙ started-yes n caps (p ∷ ps) start ∙ ap (lines n (opened n (capOf caps))) (a .2) ∙ t .1;
+        ofList = everyYard n caps start (a .0)
             (omega (arith, split-few 10 s, ap length e, ap length (a .2), length-append (a .0) (a .1 ∷ [])));
       }
 
-  by-start : (n cap : ℕ) → firstLine l ≡ first.Sizes n cap → (b : Bool) → startable n (cap ∷ cap ∷ cap ∷ cap ∷ []) ≡ b → (output s ≡ alone) ⊎ Totalled s
-  by-start n cap g true start = inr (totalled n cap g start)
-  by-start n cap g false start = inl (by-first (first.Sizes n cap) g ∙ started-no n cap (p ∷ ps) start)
+  by-start : (n : ℕ) (caps : List ℕ) → firstLine l ≡ given n caps → (b : Bool) → startable n caps ≡ b → (output s ≡ alone) ⊎ Totalled s
+  by-start n caps g true start = inr (totalled n caps g start)
+  by-start n caps g false start = inl (by-first (given n caps) g ∙ started-no n caps (p ∷ ps) start)
 
-  by-sizes : (f : FirstLine) → firstLine l ≡ f → (output s ≡ alone) ⊎ Totalled s
-  by-sizes (first.Sizes n cap) g = by-start n cap g (startable n (cap ∷ cap ∷ cap ∷ cap ∷ [])) refl
-  by-sizes first.Other g = inl (by-first first.Other g ∙ started-other (p ∷ ps))
+  by-form : (k : Form) (caps : List ℕ) → firstLine l ≡ record { form = k; caps = caps } → (output s ≡ alone) ⊎ Totalled s
+  by-form (form.Sizes n) caps g = by-start n caps g (startable n caps) refl
+  by-form form.Other caps g = inl (by-first (record { form = form.Other; caps = caps }) g ∙ started-other caps (p ∷ ps))
 
 by-pieces : (s : List ℕ) → length s ≤ maxInput → (ps : List (List ℕ)) → split 10 s ≡ ps → (output s ≡ alone) ⊎ Totalled s
 unfolding ofLines
 by-pieces s h [] e = inl (output-lines s h ∙ ap ofLines e)
 by-pieces s h (l ∷ []) e = inl (output-lines s h ∙ ap ofLines e ∙ lines-alone l)
-by-pieces s h (l ∷ p ∷ ps) e = by-sizes s h l p ps e (firstLine l) refl
+by-pieces s h (l ∷ p ∷ ps) e = by-form s h l p ps e (firstLine l .form) (firstLine l .caps) refl
 
 pub everyOutput : EveryOutput
 everyOutput s = go (decLt maxInput (length s))

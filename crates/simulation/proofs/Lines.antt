@@ -45,27 +45,27 @@ abbrev left : ℕ → List ℕ → State → ℕ → List ℕ
 left n s z at = lines n z (split 10 (drop at s))
 
 -- a yard of n nodes over the input s from the line at `from` on: up to `at` its lines are taken, and what they print stands in o up to `pos`
-pub record Running (n cap : ℕ) (s : List ℕ) (from : ℕ) (o₀ : List ℕ) (y : StoredState) (q l o : List ℕ) (at pos : ℕ) : Type 0 where
+pub record Running (n : ℕ) (caps : ℕ → ℕ) (s : List ℕ) (from : ℕ) (o₀ : List ℕ) (y : StoredState) (q l o : List ℕ) (at pos : ℕ) : Type 0 where
   pub yard : State
   pub steps : ℕ
   pub few : steps ≤ at
-  pub stands : Stands n cap maxIssues steps yard y q l
-  pub end : pos + length (left n s yard at) ≡ length (left n s (opened n cap) from)
-  pub bytes : put o pos (left n s yard at) ≡ put o₀ 0 (left n s (opened n cap) from)
+  pub stands : Stands n caps maxIssues steps yard y q l
+  pub end : pos + length (left n s yard at) ≡ length (left n s (opened n caps) from)
+  pub bytes : put o pos (left n s yard at) ≡ put o₀ 0 (left n s (opened n caps) from)
 
-pub running-starts : (n cap : ℕ) (s : List ℕ) (from : ℕ) (o : List ℕ) (y : StoredState) (q l : List ℕ) → Holds n cap maxIssues 0 (start n cap) (y .world) q l
-    → y .counters ≡ noCounters → Running n cap s from o y q l o from 0
-running-starts n cap s from o y q l h e =
-    record { yard = opened n cap; steps = 0; few = omega arith; stands = record { world = h; counters = e }; end = zero-add _; bytes = refl }
+pub running-starts : (n : ℕ) (caps : ℕ → ℕ) (s : List ℕ) (from : ℕ) (o : List ℕ) (y : StoredState) (q l : List ℕ) → Holds n caps maxIssues 0 (start n caps) (y .world) q l
+    → y .counters ≡ noCounters → Running n caps s from o y q l o from 0
+running-starts n caps s from o y q l h e =
+    record { yard = opened n caps; steps = 0; few = omega arith; stands = record { world = h; counters = e }; end = zero-add _; bytes = refl }
 
-pub running-standing : (n cap : ℕ) (s : List ℕ) (from : ℕ) (o₀ : List ℕ) (y : StoredState) (q l o : List ℕ)
-    (at pos : ℕ) → Running n cap s from o₀ y q l o at pos
+pub running-standing : (n : ℕ) (caps : ℕ → ℕ) (s : List ℕ) (from : ℕ) (o₀ : List ℕ) (y : StoredState) (q l o : List ℕ)
+    (at pos : ℕ) → Running n caps s from o₀ y q l o at pos
     → at < 999999999 → Standing maxIssues (y .world) q l
-running-standing n cap s from o₀ y q l o at pos r h =
-    record { n = n; cap = cap; k = r .steps; world = r .yard .world; more = omega (arith, r .few); holds = r .stands .world }
+running-standing n caps s from o₀ y q l o at pos r h =
+    record { n = n; caps = caps; k = r .steps; world = r .yard .world; more = omega (arith, r .few); holds = r .stands .world }
 
 -- the next line
-module _ (n cap : ℕ) (s : List ℕ) (from : ℕ) (o₀ : List ℕ) (y : StoredState) (q l o : List ℕ) (at pos end : ℕ) (r : Running n cap s from o₀ y q l o at pos)
+module _ (n : ℕ) (caps : ℕ → ℕ) (s : List ℕ) (from : ℕ) (o₀ : List ℕ) (y : StoredState) (q l o : List ℕ) (at pos end : ℕ) (r : Running n caps s from o₀ y q l o at pos)
     (e : end ≡ at + before 10 (drop at s)) (h : end < length s) where
   abbrev a : AfterLine
   a = line n (r .yard) (command (take (end - at) (drop at s)))
@@ -75,7 +75,7 @@ module _ (n cap : ℕ) (s : List ℕ) (from : ℕ) (o₀ : List ℕ) (y : Stored
       ap (lines n (r .yard)) (split-found 10 s at end e h)
       ∙ lines-more n (r .yard) (take (end - at) (drop at s)) (split 10 (drop (end + 1) s)) (split-some 10 (drop (end + 1) s))
 
-  pub running-goes : (t : Taken) (q′ l′ o′ : List ℕ) → Took n cap (r .steps) a pos o t q′ l′ o′ → Running n cap s from o₀ (t .yard) q′ l′ o′ (end + 1) (t .end)
+  pub running-goes : (t : Taken) (q′ l′ o′ : List ℕ) → Took n caps (r .steps) a pos o t q′ l′ o′ → Running n caps s from o₀ (t .yard) q′ l′ o′ (end + 1) (t .end)
   running-goes t q′ l′ o′ k =
       let others : List ℕ = left n s (a .yard) (end + 1) in
       record {
@@ -88,7 +88,7 @@ module _ (n cap : ℕ) (s : List ℕ) (from : ℕ) (o₀ : List ℕ) (y : Stored
       }
 
 -- the end of the input
-module _ (n cap : ℕ) (s : List ℕ) (from : ℕ) (o₀ : List ℕ) (y : StoredState) (q l o : List ℕ) (at pos end : ℕ) (r : Running n cap s from o₀ y q l o at pos)
+module _ (n : ℕ) (caps : ℕ → ℕ) (s : List ℕ) (from : ℕ) (o₀ : List ℕ) (y : StoredState) (q l o : List ℕ) (at pos end : ℕ) (r : Running n caps s from o₀ y q l o at pos)
     (e : end ≡ at + before 10 (drop at s)) (h : end ≡ length s) (inside : at ≤ length s) where
   -- whether bytes stand behind the last line feed
   rest-test : cond (eqb (length (drop at s)) 0) [] (refusalRow 17) ≡ cond (ltb at end) (refusalRow 17) []
@@ -110,7 +110,7 @@ module _ (n cap : ℕ) (s : List ℕ) (from : ℕ) (o₀ : List ℕ) (y : Stored
 
   pub running-ends : (t : Counters) → t ≡ y .counters → (m : ℕ) (o′ : List ℕ) → m ≡ pos + length (cond (ltb at end) (refusalRow 17) [] ++ totalRow t)
       → o′ ≡ put o pos (cond (ltb at end) (refusalRow 17) [] ++ totalRow t)
-      → WroteWhole (left n s (opened n cap) from) o₀ m o′
+      → WroteWhole (left n s (opened n caps) from) o₀ m o′
   running-ends t c m o′ em eo =
       let k = left-last t c in
       (omega (arith, r .end, ap length k), eo ∙ ap (put o pos) (sym k) ∙ r .bytes)

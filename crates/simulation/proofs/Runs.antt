@@ -12,38 +12,40 @@ use Rattle.text.specs.Before.{before}
 use Rattle.text.proofs.Pieces.{split-found, split-none, split-some}
 use Rattle.commands.specs.FirstLine.{firstLine}
 use Rattle.commands.specs.declared.FirstLine.{FirstLine}
-use Rattle.commands.specs.declared.FirstLine.the-variants as first
+use Rattle.commands.specs.declared.Form.{Form}
+use Rattle.commands.specs.declared.Form.the-variants as form
 use Rattle.holdback.specs.Slots.{queueSize}
 use Rattle.causality.specs.Demand3.{start}
 use Rattle.world.proofs.Starts.{opens}
 use Rattle.world.specs.Stored.{Holds, fresh, logSize}
-use Rattle.world.specs.Start.{maxSimulated, startable}
+use Rattle.world.specs.Start.{capOf, maxSimulated, startable}
 use Rattle.world.specs.declared.World.{World}
 use Rattle.counting.proofs.Lists.{stored-start as opened-at}
 use Rattle.counting.specs.State.{opened}
 use Rattle.simulation.specs.Yard.{alone, lines, maxInput, maxIssues, ofLines, output, started}
 
 -- the start in two local arrays of zeros
-pub stored-start : (n c : ℕ) → startable n (c ∷ c ∷ c ∷ c ∷ []) ≡ true → (w : World) → w ≡ fresh n (c ∷ c ∷ c ∷ c ∷ []) → (i j : ℕ)
+pub stored-start : (n : ℕ) (caps : List ℕ) → startable n caps ≡ true → (w : World) → w ≡ fresh n caps → (i j : ℕ)
     → i ≡ queueSize * maxSimulated → j ≡ logSize maxIssues
-    → Holds n c maxIssues 0 (start n c) w (replicate i 0) (replicate j 0)
-stored-start n c s w e i j a b = opened-at n c maxIssues (opens n c s) w e i a (replicate j 0) (length-replicate j 0 ∙ b)
+    → Holds n (capOf caps) maxIssues 0 (start n (capOf caps)) w (replicate i 0) (replicate j 0)
+stored-start n caps s w e i j a b =
+    opened-at n (capOf caps) caps maxIssues (opens n caps s) (λ k h. refl) w e i a (replicate j 0) (length-replicate j 0 ∙ b)
 
 -- a first line's sizes in range, or not
-pub started-yes : (n c : ℕ) (ls : List (List ℕ)) → startable n (c ∷ c ∷ c ∷ c ∷ []) ≡ true → started (first.Sizes n c) ls ≡ lines n (opened n c) ls
+pub started-yes : (n : ℕ) (caps : List ℕ) (ls : List (List ℕ)) → startable n caps ≡ true → started (form.Sizes n) caps ls ≡ lines n (opened n (capOf caps)) ls
 unfolding started
-started-yes n c ls e = rw e
+started-yes n caps ls e = rw e
 
-pub started-no : (n c : ℕ) (ls : List (List ℕ)) → startable n (c ∷ c ∷ c ∷ c ∷ []) ≡ false → started (first.Sizes n c) ls ≡ alone
+pub started-no : (n : ℕ) (caps : List ℕ) (ls : List (List ℕ)) → startable n caps ≡ false → started (form.Sizes n) caps ls ≡ alone
 unfolding started
-started-no n c ls e = rw e
+started-no n caps ls e = rw e
 
-pub started-other : (ls : List (List ℕ)) → started first.Other ls ≡ alone
+pub started-other : (caps : List ℕ) (ls : List (List ℕ)) → started form.Other caps ls ≡ alone
 unfolding started
-started-other ls = refl
+started-other caps ls = refl
 
 -- an input that is too long, one without a line feed, and one with a first line
-pub lines-first : (l : List ℕ) (ps : List (List ℕ)) → 1 ≤ length ps → ofLines (l ∷ ps) ≡ started (firstLine l) ps
+pub lines-first : (l : List ℕ) (ps : List (List ℕ)) → 1 ≤ length ps → ofLines (l ∷ ps) ≡ started (firstLine l .form) (firstLine l .caps) ps
 unfolding ofLines
 lines-first l [] h = absurd (omega arith)
 lines-first l (p ∷ ps) h = refl
@@ -65,12 +67,19 @@ module _ (s : List ℕ) where
     pub output-none : end ≡ length s → output s ≡ alone
     output-none z = output-lines h ∙ ap ofLines (split-none 10 s 0 end e z (omega arith)) ∙ lines-alone s
 
-    pub output-first : end < length s → (f : FirstLine) → firstLine (take end s) ≡ f → output s ≡ started f (split 10 (drop (end + 1) s))
+    output-first : end < length s → (f : FirstLine) → firstLine (take end s) ≡ f → output s ≡ started (f .form) (f .caps) (split 10 (drop (end + 1) s))
     output-first l f g =
         output-lines h
         ∙ (ap ofLines (split-found 10 s 0 end e l) ∙ lines-first (take (end - 0) s) (split 10 (drop (end + 1) s)) (split-some 10 (drop (end + 1) s))
-        ∙ ap (λ (k : ℕ). started (firstLine (take k s)) (split 10 (drop (end + 1) s))) (sub-zero end)
-        ∙ ap (λ (x : FirstLine). started x (split 10 (drop (end + 1) s))) g)
+        ∙ ap (λ (k : ℕ). started (firstLine (take k s) .form) (firstLine (take k s) .caps) (split 10 (drop (end + 1) s))) (sub-zero end)
+        ∙ ap (λ (x : FirstLine). started (x .form) (x .caps) (split 10 (drop (end + 1) s))) g)
 
-    pub output-other : end < length s → firstLine (take end s) ≡ first.Other → output s ≡ alone
-    output-other l g = output-first l first.Other g ∙ started-other (split 10 (drop (end + 1) s))
+    pub output-other : end < length s → (f : FirstLine) → firstLine (take end s) ≡ f → f .form ≡ form.Other → output s ≡ alone
+    output-other l f g o =
+        let ls = split 10 (drop (end + 1) s) in
+        output-first l f g ∙ ap (λ (x : Form). started x (f .caps) ls) o ∙ started-other (f .caps) ls
+
+    -- with sizes
+    pub output-sizes : end < length s → (f : FirstLine) → firstLine (take end s) ≡ f → (n : ℕ) → f .form ≡ form.Sizes n
+        → output s ≡ started (form.Sizes n) (f .caps) (split 10 (drop (end + 1) s))
+    output-sizes l f g n o = output-first l f g ∙ ap (λ (x : Form). started x (f .caps) (split 10 (drop (end + 1) s))) o

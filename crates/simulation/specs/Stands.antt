@@ -10,8 +10,8 @@ use Rattle.simulation.specs.Yard.{AfterLine, maxIssues}
 use Rattle.simulation.specs.declared.Taken.{Taken}
 
 -- a line that leaves and prints a: its yard is stored, and what it prints is written from `at` on
-pub record Took (n cap k : ℕ) (a : AfterLine) (at : ℕ) (o : List ℕ) (r : Taken) (q l o′ : List ℕ) : Type 0 where
-  pub stands : Stands n cap maxIssues (k + 1) (a .yard) (r .yard) q l
+pub record Took (n : ℕ) (caps : ℕ → ℕ) (k : ℕ) (a : AfterLine) (at : ℕ) (o : List ℕ) (r : Taken) (q l o′ : List ℕ) : Type 0 where
+  pub stands : Stands n caps maxIssues (k + 1) (a .yard) (r .yard) q l
   pub end : r .end ≡ at + length (a .printed)
   pub bytes : o′ ≡ put o at (a .printed)
 

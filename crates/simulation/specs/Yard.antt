@@ -13,13 +13,13 @@ use Rattle.commands.specs.Commands.{command}
 use Rattle.commands.specs.FirstLine.{firstLine}
 use Rattle.commands.specs.declared.Command.{Command}
 use Rattle.commands.specs.declared.Command.the-variants as command
-use Rattle.commands.specs.declared.FirstLine.{FirstLine}
-use Rattle.commands.specs.declared.FirstLine.the-variants as first
+use Rattle.commands.specs.declared.Form.{Form}
+use Rattle.commands.specs.declared.Form.the-variants as form
 use Rattle.counters.specs.declared.Counters.{Counters}
 use Rattle.counters.specs.Counted.{totals}
 use Rattle.counting.specs.State.{State, opened, stateAfter}
 use Rattle.world.specs.Steps.{AfterStep, sendStep, offerStep, deliverStep, frames}
-use Rattle.world.specs.Start.{startable}
+use Rattle.world.specs.Start.{capOf, startable}
 use Rattle.world.specs.declared.Outcome.{Outcome}
 use Rattle.world.specs.declared.Outcome.the-variants as outcome
 
@@ -88,16 +88,16 @@ lines n y (l ∷ m ∷ ls) = let a : AfterLine = line n y (command l) in a .prin
 abbrev pub alone : List ℕ
 alone = refusalRow 17
 
--- n is 2 to 4 and cap in range, or `R 17` alone
-unfoldable pub started : FirstLine → List (List ℕ) → List ℕ
-started (first.Sizes n cap) ls = cond (startable n (cap ∷ cap ∷ cap ∷ cap ∷ [])) (lines n (opened n cap) ls) alone
-started first.Other ls = alone
+-- n is 2 to 4 and each of its caps in range, or `R 17` alone
+unfoldable pub started : Form → List ℕ → List (List ℕ) → List ℕ
+started (form.Sizes n) caps ls = cond (startable n caps) (lines n (opened n (capOf caps)) ls) alone
+started form.Other caps ls = alone
 
 -- a first line that is missing, or not ended, is `R 17` alone
 unfoldable pub ofLines : List (List ℕ) → List ℕ
 ofLines [] = alone
 ofLines (l ∷ []) = alone
-ofLines (l ∷ m ∷ ls) = started (firstLine l) (m ∷ ls)
+ofLines (l ∷ m ∷ ls) = started (firstLine l .form) (firstLine l .caps) (m ∷ ls)
 
 -- what the yard prints for an input; of a longer one, `R 17` alone
 unfoldable pub output : List ℕ → List ℕ

@@ -2,7 +2,7 @@
 pub mod line;
 pub mod print;
 
-use commands::FirstLine;
+use commands::Form;
 use counting::State;
 use node::Node;
 use text::Ran;
@@ -13,7 +13,7 @@ ghost use lib.ListN.{length, drop};
 ghost use Rattle.text.specs.Pieces.{split};
 ghost use Rattle.text.specs.Wrote.{WroteWhole};
 ghost use Rattle.text.specs.Output.{afterRun, Fits};
-ghost use Rattle.commands.specs.declared.FirstLine.the-variants as first;
+ghost use Rattle.commands.specs.declared.Form.the-variants as form;
 ghost use Rattle.causality.specs.Demand3.{start};
 ghost use Rattle.world.specs.Stored.{Holds};
 ghost use Rattle.counting.specs.State.{opened};
@@ -52,8 +52,8 @@ fn run_lines(
 ) -> usize
     requires { ⌜ Opened maxIssues w (now queues) (now log) × (from ≤ length (now input)) × (length (now input) ≤ maxInput) × (outputSize ≤ length (now out)) ⌝ }
     ensures { λ r. ⌜ (r ≤ outputSize)
-        × ((n cap : ℕ) → Holds n cap maxIssues 0 (start n cap) w (now (queues .entry)) (now (log .entry))
-        → WroteWhole (lines n (opened n cap) (split 10 (drop from (now (input .entry))))) (now (out .entry)) r (now (out .exit))) ⌝ }
+        × ((n : ℕ) (caps : ℕ → ℕ) → Holds n caps maxIssues 0 (start n caps) w (now (queues .entry)) (now (log .entry))
+        → WroteWhole (lines n (opened n caps) (split 10 (drop from (now (input .entry))))) (now (out .entry)) r (now (out .exit))) ⌝ }
 {
     let counters = counters::no_counters();
     let mut yard = State { world: w, counters };
@@ -72,12 +72,17 @@ fn run_lines(
 }
 
 // A yard of these sizes on the lines from `at` on, where they are in range. Gives how many bytes are printed.
-fn run_sizes(n: usize, cap: usize, input: &[u8], at: usize, out: &mut [u8]) -> usize
+fn run_sizes(
+    n: usize,
+    caps: [usize; world::MAX_SIMULATED],
+    input: &[u8],
+    at: usize,
+    out: &mut [u8],
+) -> usize
     requires { ⌜ (at ≤ length (now input)) × (length (now input) ≤ maxInput) × (outputSize ≤ length (now out)) ⌝ }
-    ensures { λ r. ⌜ (r ≤ outputSize) × WroteWhole (started (first.Sizes n cap) (split 10 (drop at (now (input .entry)))))
+    ensures { λ r. ⌜ (r ≤ outputSize) × WroteWhole (started (form.Sizes n) caps (split 10 (drop at (now (input .entry)))))
         (now (out .entry)) r (now (out .exit)) ⌝ }
 {
-    let caps = [cap; world::MAX_SIMULATED];
     if !world::start::startable(n, caps) {
         return text::put_refusal(out, 0, 17);
     }
@@ -102,8 +107,12 @@ pub fn run(input: &[u8], out: &mut [u8]) -> Ran
         return Ran::Written(text::put_refusal(out, 0, 17));
     }
     let first = commands::parse_first_line(&input[..end]);
-    match first {
-        FirstLine::Sizes { n, cap } => Ran::Written(run_sizes(n, cap, input, end + 1, out)),
-        FirstLine::Other => Ran::Written(text::put_refusal(out, 0, 17)),
+    let form = first.form;
+    match form {
+        Form::Sizes(n) => {
+            let caps = first.caps;
+            Ran::Written(run_sizes(n, caps, input, end + 1, out))
+        }
+        Form::Other => Ran::Written(text::put_refusal(out, 0, 17)),
     }
 }

@@ -49,8 +49,8 @@ fn conclude(
 fn send(y: State, i: usize, j: usize, log: &mut [u8], out: &mut [u8], at: usize) -> Taken
     requires { ⌜ StandingRecords maxIssues (y .world) (now log) × Room at y (now out) ⌝ }
     ensures { λ r. ⌜ (r .end + 17 * y .world .issued ≤ at + 20 + 17 * r .yard .world .issued)
-        × ((n cap k : ℕ) (z : Lists) (q : List ℕ) → k + 1 < 1000000000 → Stands n cap maxIssues k z y q (now (log .entry))
-        → Took n cap k (line n z (command.Send i j)) at (now (out .entry)) r q (now (log .exit)) (now (out .exit))) ⌝ }
+        × ((n : ℕ) (caps : ℕ → ℕ) (k : ℕ) (z : Lists) (q : List ℕ) → k + 1 < 1000000000 → Stands n caps maxIssues k z y q (now (log .entry))
+        → Took n caps k (line n z (command.Send i j)) at (now (out .entry)) r q (now (log .exit)) (now (out .exit))) ⌝ }
 {
     let from = y.world.issued;
     let place = y.world.end;
@@ -63,8 +63,8 @@ fn send(y: State, i: usize, j: usize, log: &mut [u8], out: &mut [u8], at: usize)
 fn offer(y: State, m: usize, queues: &mut [u8], log: &[u8], out: &mut [u8], at: usize) -> Taken
     requires { ⌜ (m < 1000) × Standing maxIssues (y .world) (now queues) (now log) × Room at y (now out) ⌝ }
     ensures { λ r. ⌜ (r .end + 17 * y .world .issued ≤ at + 20 + 17 * r .yard .world .issued)
-        × ((n cap k : ℕ) (z : Lists) → k + 1 < 1000000000 → Stands n cap maxIssues k z y (now (queues .entry)) (now (log .entry))
-        → Took n cap k (line n z (command.Offer m)) at (now (out .entry)) r (now (queues .exit)) (now (log .entry)) (now (out .exit))) ⌝ }
+        × ((n : ℕ) (caps : ℕ → ℕ) (k : ℕ) (z : Lists) → k + 1 < 1000000000 → Stands n caps maxIssues k z y (now (queues .entry)) (now (log .entry))
+        → Took n caps k (line n z (command.Offer m)) at (now (out .entry)) r (now (queues .exit)) (now (log .entry)) (now (out .exit))) ⌝ }
 {
     let from = y.world.issued;
     let place = y.world.end;
@@ -84,8 +84,8 @@ fn deliver(
 ) -> Taken
     requires { ⌜ (j < 1000) × Standing maxIssues (y .world) (now queues) (now log) × Room at y (now out) ⌝ }
     ensures { λ r. ⌜ (r .end + 17 * y .world .issued ≤ at + 20 + 17 * r .yard .world .issued)
-        × ((n cap k : ℕ) (z : Lists) → k + 1 < 1000000000 → Stands n cap maxIssues k z y (now (queues .entry)) (now (log .entry))
-        → Took n cap k (line n z (command.Deliver j)) at (now (out .entry)) r (now (queues .exit)) (now (log .exit)) (now (out .exit))) ⌝ }
+        × ((n : ℕ) (caps : ℕ → ℕ) (k : ℕ) (z : Lists) → k + 1 < 1000000000 → Stands n caps maxIssues k z y (now (queues .entry)) (now (log .entry))
+        → Took n caps k (line n z (command.Deliver j)) at (now (out .entry)) r (now (queues .exit)) (now (log .exit)) (now (out .exit))) ⌝ }
 {
     let from = y.world.issued;
     let place = y.world.end;
@@ -105,8 +105,8 @@ pub fn take(
 ) -> Taken
     requires { ⌜ Standing maxIssues (y .world) (now queues) (now log) × Room at y (now out) ⌝ }
     ensures { λ r. ⌜ (r .end + 17 * y .world .issued ≤ at + 5 * (length (now (text .entry)) + 1) + 17 * r .yard .world .issued)
-        × ((n cap k : ℕ) (z : Lists) → k + 1 < 1000000000 → Stands n cap maxIssues k z y (now (queues .entry)) (now (log .entry))
-        → Took n cap k (line n z (command (now (text .entry)))) at (now (out .entry)) r (now (queues .exit)) (now (log .exit)) (now (out .exit))) ⌝ }
+        × ((n : ℕ) (caps : ℕ → ℕ) (k : ℕ) (z : Lists) → k + 1 < 1000000000 → Stands n caps maxIssues k z y (now (queues .entry)) (now (log .entry))
+        → Took n caps k (line n z (command (now (text .entry)))) at (now (out .entry)) r (now (queues .exit)) (now (log .exit)) (now (out .exit))) ⌝ }
 {
     let c = commands::parse_command(text);
     match c {

@@ -65,7 +65,7 @@ module _ (r : Record) (q : List ℕ) (s : SoundState r q) (free : T (not (atLimi
     taken = arrives (bare r) g (kept .arrives)
 
     entries : Carried (r .n) g
-    entries = carried (r .n) (r .cap) (frameAt q j) (kept .passes)
+    entries = carried (r .n) (frameAt q j) (kept .passes)
 
     sender : g .from < 12
     sender = omega (arith, entries .from, facts r q s .range .atMost12)
@@ -115,7 +115,7 @@ module _ (r : Record) (q : List ℕ) (s : SoundState r q) (free : T (not (atLimi
     still h x a =
         omega (
           arith,
-          counts (decode x .from) (omega (arith, carried (r .n) (r .cap) x (left h x a .passes) .from, facts r q s .range .atMost12)),
+          counts (decode x .from) (omega (arith, carried (r .n) x (left h x a .passes) .from, facts r q s .range .atMost12)),
           above-removed (heldMessages (r .held) q) j g (map decode others) removed (apart r q s) (vector (r .deliv)) next above h
               (decode x) (at-map decode others h x a),
         )

@@ -1,2 +1,2 @@
-//! What a call hands back, the next call takes: one theorem about set-up, send, offer and deliver.
-//! There is no code here: the statement is in specs/, proofs are in proofs/.
+//! What a call hands back, the next call takes, and how much of the frame output a call can fill: two theorems about the calls.
+//! There is no code here: the statements are in specs/, proofs are in proofs/.

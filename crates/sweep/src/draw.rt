@@ -18,9 +18,9 @@ ghost use Rattle.sweep.specs.Load.{maxIssues, afterDraw, runOf};
 fn step(w: World, v: u32, queues: &mut [u8], log: &mut [u8]) -> Stepped
     requires { ⌜ Standing maxIssues w (now queues) (now log) ⌝ }
     ensures { λ r. ⌜ (r .at < maxSimulated) × Few (r .outcome)
-        × ((n cap k : ℕ) (z : State) → k + 1 < 1000000000 → Holds n cap maxIssues k (z .world) w (now (queues .entry)) (now (log .entry))
+        × ((n : ℕ) (caps : ℕ → ℕ) (k : ℕ) (z : State) → k + 1 < 1000000000 → Holds n caps maxIssues k (z .world) w (now (queues .entry)) (now (log .entry))
         → (countedBy (z .counters) (r .outcome) ≡ afterDraw n z v .counters)
-        × Holds n cap maxIssues (k + 1) (afterDraw n z v .world) (storedBy w r) (now (queues .exit)) (now (log .exit))) ⌝ }
+        × Holds n caps maxIssues (k + 1) (afterDraw n z v .world) (storedBy w r) (now (queues .exit)) (now (log .exit))) ⌝ }
 {
     let d = draws::step_of(w.n, w.issued, v);
     match d {
@@ -40,8 +40,8 @@ pub fn run_draws(
     log: &mut [u8],
 ) -> Counters
     requires { ⌜ Opened maxIssues first (now queues) (now log) × (count ≤ 400) ⌝ }
-    ensures { λ r. ⌜ ((n cap : ℕ) → Holds n cap maxIssues 0 (start n cap) first (now (queues .entry)) (now (log .entry))
-        → r ≡ runOf n cap seed count .counters) ⌝ }
+    ensures { λ r. ⌜ ((n : ℕ) (caps : ℕ → ℕ) → Holds n caps maxIssues 0 (start n caps) first (now (queues .entry)) (now (log .entry))
+        → r ≡ runOf n caps seed count .counters) ⌝ }
 {
     let mut t = counters::no_counters();
     let mut w = first;

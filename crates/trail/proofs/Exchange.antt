@@ -98,8 +98,8 @@ module _ (f : List ℕ) (k : ℕ) (b : AllBytes f) (e : unsound f ≡ false) (u 
   bad : unsound g ≡ true
   unfolding unsound
   bad =
-      let eight = exchangeMeets8 (header f .n) (header f .cap) f (frame-alone .own f b e) k u (header g .n) (header g .cap) in
-      either-second (not (inOwnRange (header g .n) (header g .cap))) (not (eqb (frameRefusal (header g .n) (header g .cap) g) 0)) (rw eight)
+      let eight = exchangeMeets8 (header f .n) f (frame-alone .own f b e) k u (header g .n) in
+      either-second (not (inOwnRange (header g .n))) (not (eqb (frameRefusal (header g .n) g) 0)) (rw eight)
 
   long : 12 ≤ length g
   long = omega (arith, length-exchanged f k, lone f e .long)

@@ -7,8 +7,7 @@ use native.Mathlib.Omega.{arith}
 use borrow.Author.Tests.{eqb-true, lt-ltb, not-false}
 use lib.Dec.{eqb}
 use lib.ListN.{getD, length}
-use Rattle.frame.proofs.Passed.{Kept, passes-kept}
-use Rattle.frame.specs.Entries.{entriesFrom}
+use Rattle.frame.proofs.Passed.{passes-kept}
 use Rattle.frame.specs.Header.{header}
 use Rattle.frame.specs.Refusals.{frameRefusal, wrongTrailer}
 use Rattle.trail.specs.Sound.{inOwnRange, kindBit, unsound}
@@ -19,7 +18,7 @@ use Rattle.wire.specs.Trailer.{countBack}
 -- fewer than 12 bytes meet 8
 pub short-unsound : (s : List ℕ) → length s < 12 → unsound s ≡ true
 unfolding unsound frameRefusal wrongTrailer
-short-unsound s h = either-second (not (inOwnRange (header s .n) (header s .cap))) _ (rw (lt-ltb (length s) 12 h))
+short-unsound s h = either-second (not (inOwnRange (header s .n))) _ (rw (lt-ltb (length s) 12 h))
 
 -- a kind's bit is at most 1
 pub bit-most : (kind : ℕ) → kindBit kind ≤ 1
@@ -35,16 +34,16 @@ pub record Lone (s : List ℕ) : Type 0 where
   pub back : countBack s ≡ length s - 4
   pub size : length s ≡ 12 + 6 * getD s 3 0 + getD s 4 0
 
--- a sound frame keeps the rules of one with its own n and cap
-kept : (s : List ℕ) → unsound s ≡ false → Kept (header s .n) (header s .cap) s (header s) (entriesFrom s 0 (header s .e))
+-- a sound frame has its n in range and meets none of 8 to 11 with it
+pub alone : (s : List ℕ) → unsound s ≡ false → (inOwnRange (header s .n) ≡ true) × (frameRefusal (header s .n) s ≡ 0)
 unfolding unsound
-kept s e =
-    let p = neither (not (inOwnRange (header s .n) (header s .cap))) (not (eqb (frameRefusal (header s .n) (header s .cap) s) 0)) e in
-    passes-kept (header s .n) (header s .cap) s (eqb-true (frameRefusal (header s .n) (header s .cap) s) 0 (not-false _ (p .1)))
+alone s e =
+    let p = neither (not (inOwnRange (header s .n))) (not (eqb (frameRefusal (header s .n) s) 0)) e in
+    (not-false _ (p .0), eqb-true (frameRefusal (header s .n) s) 0 (not-false _ (p .1)))
 
 pub lone : (s : List ℕ) → unsound s ≡ false → Lone s
 unfolding header
 lone s e =
-    let k = kept s e in
+    let k = passes-kept (header s .n) s (alone s e .1) in
     let t = trailed s (k .trailer) in
     record { long = k .long; back = t .count; size = omega (arith, k .long, k .size, t .count) }

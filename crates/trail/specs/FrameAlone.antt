@@ -1,4 +1,4 @@
--- Which frames are sound on their own: those that a record with their n and cap takes, and no others; so every frame that a node issues or holds.
+-- Which frames are sound on their own: those that a record with their n takes, and no others; so every frame that a node issues or holds.
 use Prim.Native.Nat.{ℕ}
 use mathlib.Core.Bool.{false}
 use mathlib.Core.List.{List}
@@ -10,8 +10,8 @@ use Rattle.frame.specs.Frame.{encode}
 use Rattle.frame.specs.RoundTrip.{SoundFrame}
 use Rattle.trail.specs.Sound.{unsound}
 
--- taken: a frame for some n and cap in range; own: it is one for its own; message: the frame of a message
+-- taken: a frame among some n nodes; own: it is one among as many as it says; message: the frame of a message
 pub record FrameAlone : Type 0 where
-  pub taken : (n cap : ℕ) (s : List ℕ) → SoundFrame n cap s → unsound s ≡ false
-  pub own : (s : List ℕ) → AllBytes s → unsound s ≡ false → SoundFrame (header s .n) (header s .cap) s
+  pub taken : (n : ℕ) (s : List ℕ) → SoundFrame n s → unsound s ≡ false
+  pub own : (s : List ℕ) → AllBytes s → unsound s ≡ false → SoundFrame (header s .n) s
   pub message : (m : Message) → Sound m → unsound (encode m) ≡ false

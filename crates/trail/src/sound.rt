@@ -1,21 +1,15 @@
-//! A frame on its own: document 01's checks 8 to 11 with the frame's own n and cap for a record's, and these in the range of check 1.
+//! A frame on its own: document 01's checks 8 to 11 with the frame's own n for a record's, and this in the range of check 1.
 ghost use mathlib.Core.Path.{_≡_};
 ghost use Rattle.trail.specs.Sound.{inOwnRange, kindBit, unsound};
 
-// n is 2 to 12 and cap is n to n * n.
-fn in_own_range(n: u8, cap: u8) -> bool
-    ensures { λ r. ⌜ r ≡ inOwnRange n cap ⌝ }
+// n is 2 to 12.
+fn in_own_range(n: u8) -> bool
+    ensures { λ r. ⌜ r ≡ inOwnRange n ⌝ }
 {
     if n < 2 {
         return false;
     }
-    if wire::MAX_NODES < n as usize {
-        return false;
-    }
-    if cap < n {
-        return false;
-    }
-    cap as usize <= n as usize * n as usize
+    n as usize <= wire::MAX_NODES
 }
 
 /// Whether s, which may have any length, is no sound frame on its own.
@@ -26,11 +20,10 @@ pub fn unsound(s: &[u8]) -> bool
         return true;
     }
     let n = s[5];
-    let cap = s[6];
-    if !in_own_range(n, cap) {
+    if !in_own_range(n) {
         return true;
     }
-    frame::check::refusal(s, n, cap) != 0
+    frame::check::refusal(s, n) != 0
 }
 
 /// 1 for the kind byte of an extra frame, 0 for a user frame's.

@@ -1,3 +1,4 @@
 -- Laws that the proofs of this crate and of the crates above cite.
 pub mod Trimming
 pub mod Bounds
+pub mod Outputs

@@ -33,10 +33,10 @@ use Rattle.world.specs.Steps.{AfterStep, afterDelivered, bodyOutput, del
 use Rattle.world.specs.Stored.{Holds, joined, logSize, noRecord, queueAt, storedAfter}
 use Rattle.world.specs.Start.{maxSimulated}
 
-module _ (n cap limit k : ℕ) (w : World) (s : Stored) (q l : List ℕ) (h : Holds n cap limit k w s q l) (short : k + 1 < 1000000000) (j : ℕ) where
+module _ (n : ℕ) (caps : ℕ → ℕ) (limit k : ℕ) (w : World) (s : Stored) (q l : List ℕ) (h : Holds n caps limit k w s q l) (short : k + 1 < 1000000000) (j : ℕ) where
   -- what is asked of the code: the outcome and the stored world are the definition's
   abbrev pub DeliverDone : Outcome → Stored → List ℕ → List ℕ → Type 0
-  DeliverDone o s′ q′ l′ = (o ≡ deliverStep n limit w j .outcome) × Holds n cap limit (k + 1) (deliverStep n limit w j .world) s′ q′ l′
+  DeliverDone o s′ q′ l′ = (o ≡ deliverStep n limit w j .outcome) × Holds n caps limit (k + 1) (deliverStep n limit w j .world) s′ q′ l′
 
   deliver-stops : (leb n j || exhausted n limit w) ≡ true → deliverStep n limit w j ≡ refuse 17 w
   unfolding deliverStep
@@ -44,8 +44,8 @@ module _ (n cap limit k : ℕ) (w : World) (s : Stored) (q l : List ℕ) (h : Ho
 
   pub deliver-17 : (leb n j || exhausted n limit w) ≡ true → DeliverDone (outcome.Refused 17) s q l
   deliver-17 t =
-      subst (λ (a : AfterStep). (outcome.Refused 17 ≡ a .outcome) × Holds n cap limit (k + 1) (a .world) s q l) (sym (deliver-stops t))
-      (refl, holds-later n cap limit k w s q l h)
+      subst (λ (a : AfterStep). (outcome.Refused 17 ≡ a .outcome) × Holds n caps limit (k + 1) (a .world) s q l) (sym (deliver-stops t))
+      (refl, holds-later n caps limit k w s q l h)
 
   module _ (hj : j < n) (left : length (w .log) + n ≤ limit) (r : Record) (er : r ≡ getD (s .nodes) j noRecord) (width : ℕ) (ez : width ≡ queueSize)
       (a : Delivery) (p₁ out body : List ℕ) (e : afterDeliver a p₁ out body ≡ deliverCall r (take width (drop (queueSize * j) q)) frameOutput bodyOutput)
@@ -79,11 +79,11 @@ module _ (n cap limit k : ℕ) (w : World) (s : Stored) (q l : List ℕ) (h : Ho
     pub deliver-refused : (why : ℕ) → a .answer ≡ deliverAnswer.Refused why → DeliverDone (outcome.Refused why) s q₁ l
     deliver-refused why t =
         let u : p₁ ≡ queueAt q j = sym (ap (λ (x : AfterDeliver). x .queue) same) ∙ told (deliverAnswer.Refused why) t ∙ sym (h .queues j hj) in
-        subst (λ (x : AfterStep). (outcome.Refused why ≡ x .outcome) × Holds n cap limit (k + 1) (x .world) s q₁ l)
+        subst (λ (x : AfterStep). (outcome.Refused why ≡ x .outcome) × Holds n caps limit (k + 1) (x .world) s q₁ l)
         (sym (deliver-goes ∙ ap (afterDelivered w j c) t)) (
           refl,
-          subst (λ (y : List ℕ). Holds n cap limit (k + 1) w s y l)
-              (sym (queue-back j width q p₁ few (h .size) ez long u)) (holds-later n cap limit k w s q l h),
+          subst (λ (y : List ℕ). Holds n caps limit (k + 1) w s y l)
+              (sym (queue-back j width q p₁ few (h .size) ez long u)) (holds-later n caps limit k w s q l h),
         )
 
     -- the stored world after the call
@@ -91,11 +91,11 @@ module _ (n cap limit k : ℕ) (w : World) (s : Stored) (q l : List ℕ) (h : Ho
         → length (framesIn (take (bytesIssued (delivered (c .result .answer))) (c .out))) ≡ count
         → length (w .log) + count ≤ limit → s .end + length bytes ≤ length l → (s′ : Stored) (l′ : List ℕ)
         → s′ ≡ storedAfter s j (c .result .node) count (length bytes) → l′ ≡ write l (s .end) bytes
-        → Holds n cap limit (k + 1) (deliverAt w j (delivers j frameOutput bodyOutput) c) s′ q₁ l′
+        → Holds n caps limit (k + 1) (deliverAt w j (delivers j frameOutput bodyOutput) c) s′ q₁ l′
     stored bytes count written many below fits s′ l′ es el =
-        holds-after n cap limit k w s q l h short j hj (delivers j frameOutput bodyOutput) (c .result .node) (c .queue)
+        holds-after n caps limit k w s q l h short j hj (delivers j frameOutput bodyOutput) (c .result .node) (c .queue)
         (delivered (c .result .answer)) (c .out) q₁ bytes count
-        (reached-deliver n cap k w (h .reached) j frameOutput bodyOutput hj)
+        (reached-deliver n caps k w (h .reached) j frameOutput bodyOutput hj)
         (queues-length j width q p₁ few (h .size) ez long)
         (queue-here j width q p₁ few (h .size) ez long ∙ sym (ap (λ (x : AfterDeliver). x .queue) same))
         (λ x hx d. queue-other j width q p₁ few (h .size) ez long x d)
@@ -111,7 +111,7 @@ module _ (n cap limit k : ℕ) (w : World) (s : Stored) (q l : List ℕ) (h : Ho
     deliver-nothing tried t =
         let e₀ : bytesIssued (delivered (c .result .answer)) ≡ 0 = tells (deliverAnswer.Nothing tried) t in
         let u = told (deliverAnswer.Nothing tried) t in
-        subst (λ (x : AfterStep). (outcome.Nothing tried ≡ x .outcome) × Holds n cap limit (k + 1) (x .world) s q₁ l)
+        subst (λ (x : AfterStep). (outcome.Nothing tried ≡ x .outcome) × Holds n caps limit (k + 1) (x .world) s q₁ l)
         (sym (deliver-goes ∙ ap (afterDelivered w j c) t)) (
           refl,
           stored [] 0 (frames-joined (take (bytesIssued (delivered (c .result .answer))) (c .out)) ∙ ap (λ (x : ℕ). take x (c .out)) e₀)
@@ -122,7 +122,7 @@ module _ (n cap limit k : ℕ) (w : World) (s : Stored) (q l : List ℕ) (h : Ho
     module _ (d : Delivered) (t : a .answer ≡ deliverAnswer.Frame d) where
       facts : DeliveredFacts n frameOutput (c .out) d
       facts =
-          subst (λ (x : ℕ). DeliveredFacts x frameOutput (c .out) d) (reached-sized n cap k w (h .reached) (h .range) (omega arith) j hj)
+          subst (λ (x : ℕ). DeliveredFacts x frameOutput (c .out) d) (reached-sized n caps k w (h .reached) (h .range) (omega arith) j hj)
           (told (deliverAnswer.Frame d) t)
 
       pub delivered-inside : d .bytes ≤ length out
@@ -133,7 +133,7 @@ module _ (n cap limit k : ℕ) (w : World) (s : Stored) (q l : List ℕ) (h : Ho
 
       pub delivered-room : s .end + length (take (d .bytes) out) ≤ length l
       unfolding logSize
-      delivered-room = omega (arith, end-room n cap limit k w s q l h (omega arith), length-take-le (d .bytes) out delivered-inside, facts .most, h .room)
+      delivered-room = omega (arith, end-room n caps limit k w s q l h (omega arith), length-take-le (d .bytes) out delivered-inside, facts .most, h .room)
 
       pub deliver-frame : (issue : ℕ)
           → issue ≡ issueFrom 1 (record { kind = d .kind; from = d .from; number = d .number }) j (frames (w .log)) → (s′ : Stored) (l′ : List ℕ)
@@ -142,13 +142,13 @@ module _ (n cap limit k : ℕ) (w : World) (s : Stored) (q l : List ℕ) (h : Ho
       deliver-frame issue ei s′ l′ es el =
           let f = facts in
           let e₀ : bytesIssued (delivered (c .result .answer)) ≡ d .bytes = tells (deliverAnswer.Frame d) t in
-          subst (λ (x : AfterStep). (outcome.Delivered issue (d .tried) (d .extras) ≡ x .outcome) × Holds n cap limit (k + 1) (x .world) s′ q₁ l′)
+          subst (λ (x : AfterStep). (outcome.Delivered issue (d .tried) (d .extras) ≡ x .outcome) × Holds n caps limit (k + 1) (x .world) s′ q₁ l′)
           (sym (deliver-goes ∙ ap (afterDelivered w j c) t)) (
             ap (λ (x : ℕ). outcome.Delivered x (d .tried) (d .extras)) ei,
             stored (take (d .bytes) out) (d .extras)
                 (frames-joined (take (bytesIssued (delivered (c .result .answer))) (c .out))
                 ∙ ap₂ (λ (x : ℕ) (y : List ℕ). take x y) e₀ (ap (λ (x : AfterDeliver). x .out) same))
                 (ap (λ (x : ℕ). length (framesIn (take x (c .out)))) e₀ ∙ wrote-frames (f .wrote) ∙ f .many)
-                (omega (arith, f .few, h .range .atLeast2)) delivered-room s′ l′
+                (omega (arith, f .few, h .least)) delivered-room s′ l′
                 (es ∙ ap (λ (x : AfterDeliver). storedAfter s j (x .result .node) (d .extras) (length (take (d .bytes) out))) (sym same)) el,
           )

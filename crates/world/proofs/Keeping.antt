@@ -45,11 +45,11 @@ frames-grown l t f = map-append (λ (g : Issue). g .frame) l (map (issuedBy t) f
     same (s ∷ f) = ap (λ (x : List (List ℕ)). s ∷ x) (same f)
 
 -- the frames of a reached world, sound
-module _ (n cap limit k : ℕ) (w : World) (s : Stored) (q l : List ℕ) (h : Holds n cap limit k w s q l) (short : k < 1000000000) where
-  pub issue-facts : (p : ℕ) → p < length (w .log) → IssuedFacts n cap k w (h .reached) (getD (frames (w .log)) p [])
+module _ (n : ℕ) (caps : ℕ → ℕ) (limit k : ℕ) (w : World) (s : Stored) (q l : List ℕ) (h : Holds n caps limit k w s q l) (short : k < 1000000000) where
+  pub issue-facts : (p : ℕ) → p < length (w .log) → IssuedFacts n caps k w (h .reached) (getD (frames (w .log)) p [])
   issue-facts p a =
       let x = issue-at (w .log) p a in
-      subst (IssuedFacts n cap k w (h .reached)) (sym (x .2)) (issued-facts n cap k w (h .reached) (h .range) short p (x .0) (x .1))
+      subst (IssuedFacts n caps k w (h .reached)) (sym (x .2)) (issued-facts n caps k w (h .reached) (h .range) short p (x .0) (x .1))
 
   -- the bytes issued so far leave room for what a call writes
   pub end-room : s .end ≤ maxFrame * length (w .log)
@@ -65,11 +65,12 @@ module _ (n cap limit k : ℕ) (w : World) (s : Stored) (q l : List ℕ) (h : Ho
   begins-with c a = record { frames = frames (w .log); many = omega (arith, length-map (w .log) (λ (g : Issue). g .frame)); begins = h .begins }
 
 -- nothing is done
-pub holds-later : (n cap limit k : ℕ) (w : World) (s : Stored) (q l : List ℕ) → Holds n cap limit k w s q l → Holds n cap limit (k + 1) w s q l
-holds-later n cap limit k w s q l h = record {
+pub holds-later : (n : ℕ) (caps : ℕ → ℕ) (limit k : ℕ) (w : World) (s : Stored) (q l : List ℕ) → Holds n caps limit k w s q l → Holds n caps limit (k + 1) w s q l
+holds-later n caps limit k w s q l h = record {
   range = h .range;
+  least = h .least;
   few = h .few;
-  reached = reached-later n cap k w (h .reached);
+  reached = reached-later n caps k w (h .reached);
   nodes = h .nodes;
   array = h .array;
   records = h .records;
@@ -83,9 +84,9 @@ holds-later n cap limit k w s q l h = record {
 }
 
 -- an outcome and a stored world under another name
-pub as-stored : (n cap limit k : ℕ) (w : World) (p o o′ : Outcome) (s s′ : Stored) (q l : List ℕ) → o′ ≡ o → s′ ≡ s → (o ≡ p) × Holds n cap limit k w s q l
-    → (o′ ≡ p) × Holds n cap limit k w s′ q l
-as-stored n cap limit k w p o o′ s s′ q l eo es d = (eo ∙ d .0, subst (λ (x : Stored). Holds n cap limit k w x q l) (sym es) (d .1))
+pub as-stored : (n : ℕ) (caps : ℕ → ℕ) (limit k : ℕ) (w : World) (p o o′ : Outcome) (s s′ : Stored) (q l : List ℕ) → o′ ≡ o → s′ ≡ s → (o ≡ p) × Holds n caps limit k w s q l
+    → (o′ ≡ p) × Holds n caps limit k w s′ q l
+as-stored n caps limit k w p o o′ s s′ q l eo es d = (eo ∙ d .0, subst (λ (x : Stored). Holds n caps limit k w x q l) (sym es) (d .1))
 
 -- a call at node i that issues nothing
 pub stored-still : (s : Stored) (i : ℕ) (r : Record) → storedAfter s i r 0 0 ≡ record { n = s .n; nodes = set (s .nodes) i r; issued = s .issued; end = s .end }
@@ -95,9 +96,9 @@ stored-still s i r =
     λ z. record { n = s .n; nodes = set (s .nodes) i r; issued = issued z; end = end z }
 
 -- a call at node i
-module _ (n cap limit k : ℕ) (w : World) (s : Stored) (q l : List ℕ) (h : Holds n cap limit k w s q l) (short : k + 1 < 1000000000)
+module _ (n : ℕ) (caps : ℕ → ℕ) (limit k : ℕ) (w : World) (s : Stored) (q l : List ℕ) (h : Holds n caps limit k w s q l) (short : k + 1 < 1000000000)
     (i : ℕ) (hi : i < n) (t : Step) (r : Record) (qi : List ℕ) (a : Answer) (out : List ℕ) (q′ bytes : List ℕ) (count : ℕ)
-    (reached : Reached n cap (k + 1) (afterCall w i t r qi a out))
+    (reached : Reached n caps (k + 1) (afterCall w i t r qi a out))
     (size : length q′ ≡ length q) (here : queueAt q′ i ≡ qi) (others : (x : ℕ) → x < n → x ≢ i → queueAt q′ x ≡ queueAt q x)
     (written : joined (issuedFrames a out) ≡ bytes) (many : length (issuedFrames a out) ≡ count)
     (below : length (w .log) + count ≤ limit) (fits : s .end + length bytes ≤ length l) where
@@ -131,7 +132,7 @@ module _ (n cap limit k : ℕ) (w : World) (s : Stored) (q l : List ℕ) (h : Ho
   new-sound : (p : ℕ) → p < length (frames (v .log)) → CheckedFrame (getD (frames (v .log)) p [])
   new-sound p a =
       let x = issue-at (v .log) p (omega (arith, length-map (v .log) (λ (g : Issue). g .frame))) in
-      subst CheckedFrame (sym (x .2)) (issued-facts n cap (k + 1) v reached (h .range) short p (x .0) (x .1) .sound)
+      subst CheckedFrame (sym (x .2)) (issued-facts n caps (k + 1) v reached (h .range) short p (x .0) (x .1) .sound)
 
   new-records : (x : ℕ) → x < n → getD (set (s .nodes) i r) x noRecord ≡ v .records x
   new-records x hx = go (ℕ-discrete x i)
@@ -147,11 +148,12 @@ module _ (n cap limit k : ℕ) (w : World) (s : Stored) (q l : List ℕ) (h : Ho
       go (yes e) = rw e (here ∙ sym (update-same (w .queues) i qi))
       go (no e) = others x hx e ∙ h .queues x hx ∙ sym (update-other (w .queues) i qi x e)
 
-  pub holds-after : (s′ : Stored) (l′ : List ℕ) → s′ ≡ storedAfter s i r count (length bytes) → l′ ≡ put l (s .end) bytes → Holds n cap limit (k + 1) v s′ q′ l′
+  pub holds-after : (s′ : Stored) (l′ : List ℕ) → s′ ≡ storedAfter s i r count (length bytes) → l′ ≡ put l (s .end) bytes → Holds n caps limit (k + 1) v s′ q′ l′
   holds-after s′ l′ es el =
       rw (es, el)
       record {
         range = h .range;
+        least = h .least;
         few = h .few;
         reached = reached;
         nodes = h .nodes;

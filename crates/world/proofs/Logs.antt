@@ -25,7 +25,7 @@ use Rattle.world.specs.Stored.{joined, Begins}
 -- a sound frame is as long as its own e and b say, and has at most 802 bytes
 checked-own : (s : List ℕ) → CheckedFrame s → ownLength (header s) ≡ length s
 unfolding ownLength
-checked-own s c = let k = passes-kept (c .n) (c .cap) s (c .passes) in omega (arith, k .size, k .long, trailed s (k .trailer) .count)
+checked-own s c = let k = passes-kept (c .n) s (c .passes) in omega (arith, k .size, k .long, trailed s (k .trailer) .count)
 
 pub joined-append : (f g : List (List ℕ)) → joined (f ++ g) ≡ joined f ++ joined g
 unfolding joined

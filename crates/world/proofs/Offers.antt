@@ -37,15 +37,15 @@ none-at [] (suc p) h = refl
 none-at (x ∷ l) zero h = absurd (omega arith)
 none-at (x ∷ l) (suc p) h = none-at l p (omega arith)
 
-module _ (n cap limit k : ℕ) (w : World) (s : Stored) (q l : List ℕ) (h : Holds n cap limit k w s q l) (short : k + 1 < 1000000000) (m : ℕ) where
+module _ (n : ℕ) (caps : ℕ → ℕ) (limit k : ℕ) (w : World) (s : Stored) (q l : List ℕ) (h : Holds n caps limit k w s q l) (short : k + 1 < 1000000000) (m : ℕ) where
   -- what is asked of the code: the outcome and the stored world are the definition's
   abbrev pub OfferDone : Outcome → Stored → List ℕ → Type 0
-  OfferDone o s′ q′ = (o ≡ offerStep w m .outcome) × Holds n cap limit (k + 1) (offerStep w m .world) s′ q′ l
+  OfferDone o s′ q′ = (o ≡ offerStep w m .outcome) × Holds n caps limit (k + 1) (offerStep w m .world) s′ q′ l
 
   refused-17 : offerStep w m ≡ refuse 17 w → OfferDone (outcome.Refused 17) s q
   refused-17 e =
-      subst (λ (a : AfterStep). (outcome.Refused 17 ≡ a .outcome) × Holds n cap limit (k + 1) (a .world) s q l) (sym e)
-      (refl, holds-later n cap limit k w s q l h)
+      subst (λ (a : AfterStep). (outcome.Refused 17 ≡ a .outcome) × Holds n caps limit (k + 1) (a .world) s q l) (sym e)
+      (refl, holds-later n caps limit k w s q l h)
 
   stops-first : m ≡ 0 → offerStep w m ≡ refuse 17 w
   unfolding offerStep
@@ -74,7 +74,7 @@ module _ (n cap limit k : ℕ) (w : World) (s : Stored) (q l : List ℕ) (h : Ho
 
     module _ (j : ℕ) (ej : j ≡ destination frame) where
       pub offer-to : j < n
-      offer-to = rw ej (issue-facts n cap limit k w s q l h (omega arith) p (omega arith) .to)
+      offer-to = rw ej (issue-facts n caps limit k w s q l h (omega arith) p (omega arith) .to)
 
       module _ (r : Record) (er : r ≡ getD (s .nodes) j noRecord) (f : List ℕ) (ef : f ≡ frame) (width : ℕ) (ez : width ≡ queueSize) (a : Offered) (p₁ : List ℕ)
           (e : afterOffer a p₁ ≡ offerCall r f (take width (drop (queueSize * j) q))) (long : length p₁ ≡ length (take width (drop (queueSize * j) q))) where
@@ -122,23 +122,23 @@ module _ (n cap limit k : ℕ) (w : World) (s : Stored) (q l : List ℕ) (h : Ho
             subst (λ (x : OfferAnswer). OfferTold (w .queues j) x c) (ap (λ (x : AfterOffer). x .result .answer) same ∙ t)
             (offer-told (w .records j) frame (w .queues j)) in
             let u : p₁ ≡ queueAt q j = sym (ap (λ (x : AfterOffer). x .queue) same) ∙ told ∙ sym (h .queues j offer-to) in
-            subst (λ (x : AfterStep). (outcome.Refused why ≡ x .outcome) × Holds n cap limit (k + 1) (x .world) s q₁ l)
+            subst (λ (x : AfterStep). (outcome.Refused why ≡ x .outcome) × Holds n caps limit (k + 1) (x .world) s q₁ l)
             (sym (goes ∙ ap (afterOffered w j p c) t)) (
               refl,
-              subst (λ (y : List ℕ). Holds n cap limit (k + 1) w s y l)
-                  (sym (queue-back j width q p₁ few (h .size) ez long u)) (holds-later n cap limit k w s q l h),
+              subst (λ (y : List ℕ). Holds n caps limit (k + 1) w s y l)
+                  (sym (queue-back j width q p₁ few (h .size) ez long u)) (holds-later n caps limit k w s q l h),
             )
 
         pub offer-held : (count : ℕ) (ready : Bool) → a .answer ≡ offerAnswer.Held count ready → (s′ : Stored)
             → s′ ≡ record { n = s .n; nodes = set (s .nodes) j (a .node); issued = s .issued; end = s .end }
             → OfferDone (outcome.Held count ready) s′ q₁
         offer-held count ready t s′ es =
-            subst (λ (x : AfterStep). (outcome.Held count ready ≡ x .outcome) × Holds n cap limit (k + 1) (x .world) s′ q₁ l)
+            subst (λ (x : AfterStep). (outcome.Held count ready ≡ x .outcome) × Holds n caps limit (k + 1) (x .world) s′ q₁ l)
             (sym (goes ∙ ap (afterOffered w j p c) t)) (
               refl,
-              holds-after n cap limit k w s q l h short j offer-to (offers j p) (c .result .node) (c .queue) (offered (c .result .answer)) [] q₁ [] 0
-                  (subst (λ (x : List ℕ). Reached n cap (k + 1) (offerAt w j (offers j p) (offerCall (w .records j) x (w .queues j)))) (sym named)
-                  (reached-offer n cap k w (h .reached) j p g offer-to at))
+              holds-after n caps limit k w s q l h short j offer-to (offers j p) (c .result .node) (c .queue) (offered (c .result .answer)) [] q₁ [] 0
+                  (subst (λ (x : List ℕ). Reached n caps (k + 1) (offerAt w j (offers j p) (offerCall (w .records j) x (w .queues j)))) (sym named)
+                  (reached-offer n caps k w (h .reached) j p g offer-to at))
                   (queues-length j width q p₁ few (h .size) ez long)
                   (queue-here j width q p₁ few (h .size) ez long ∙ sym (ap (λ (x : AfterOffer). x .queue) same))
                   (λ x hx d. queue-other j width q p₁ few (h .size) ez long x d)

@@ -38,10 +38,10 @@ module _ (n limit i : ℕ) (w : World) where
   pub goes-on : i < n → length (w .log) + n ≤ limit → (leb n i || exhausted n limit w) ≡ false
   goes-on h l = rw (lt-leb n i h, le-ltb (limit - length (w .log)) n (omega arith))
 
-module _ (n cap limit k : ℕ) (w : World) (s : Stored) (q l : List ℕ) (h : Holds n cap limit k w s q l) (short : k + 1 < 1000000000) (i j : ℕ) where
+module _ (n : ℕ) (caps : ℕ → ℕ) (limit k : ℕ) (w : World) (s : Stored) (q l : List ℕ) (h : Holds n caps limit k w s q l) (short : k + 1 < 1000000000) (i j : ℕ) where
   -- what is asked of the code: the outcome and the stored world are the definition's
   abbrev pub SendDone : Outcome → Stored → List ℕ → Type 0
-  SendDone o s′ l′ = (o ≡ sendStep n limit w i j .outcome) × Holds n cap limit (k + 1) (sendStep n limit w i j .world) s′ q l′
+  SendDone o s′ l′ = (o ≡ sendStep n limit w i j .outcome) × Holds n caps limit (k + 1) (sendStep n limit w i j .world) s′ q l′
 
   send-stops : (leb n i || exhausted n limit w) ≡ true → sendStep n limit w i j ≡ refuse 17 w
   unfolding sendStep
@@ -49,8 +49,8 @@ module _ (n cap limit k : ℕ) (w : World) (s : Stored) (q l : List ℕ) (h : Ho
 
   pub send-17 : (leb n i || exhausted n limit w) ≡ true → SendDone (outcome.Refused 17) s l
   send-17 t =
-      subst (λ (a : AfterStep). (outcome.Refused 17 ≡ a .outcome) × Holds n cap limit (k + 1) (a .world) s q l) (sym (send-stops t))
-      (refl, holds-later n cap limit k w s q l h)
+      subst (λ (a : AfterStep). (outcome.Refused 17 ≡ a .outcome) × Holds n caps limit (k + 1) (a .world) s q l) (sym (send-stops t))
+      (refl, holds-later n caps limit k w s q l h)
 
   module _ (hi : i < n) (left : length (w .log) + n ≤ limit) (r : Record) (er : r ≡ getD (s .nodes) i noRecord) (a : Sent) (out : List ℕ)
       (e : afterSend a out ≡ sendCall r j mover [] frameOutput) where
@@ -66,8 +66,8 @@ module _ (n cap limit k : ℕ) (w : World) (s : Stored) (q l : List ℕ) (h : Ho
 
     pub send-refused : (why : ℕ) → a .answer ≡ sendAnswer.Refused why → SendDone (outcome.Refused why) s l
     send-refused why t =
-        subst (λ (x : AfterStep). (outcome.Refused why ≡ x .outcome) × Holds n cap limit (k + 1) (x .world) s q l) (sym (send-goes ∙ ap (afterSent w i j c) t))
-        (refl, holds-later n cap limit k w s q l h)
+        subst (λ (x : AfterStep). (outcome.Refused why ≡ x .outcome) × Holds n caps limit (k + 1) (x .world) s q l) (sym (send-goes ∙ ap (afterSent w i j c) t))
+        (refl, holds-later n caps limit k w s q l h)
 
     module _ (bytes extras : ℕ) (t : a .answer ≡ sendAnswer.Sent bytes extras) where
       told : c .result .answer ≡ sendAnswer.Sent bytes extras
@@ -85,7 +85,7 @@ module _ (n cap limit k : ℕ) (w : World) (s : Stored) (q l : List ℕ) (h : Ho
 
       pub sent-room : s .end + length (take bytes out) ≤ length l
       unfolding logSize
-      sent-room = omega (arith, end-room n cap limit k w s q l h (omega arith), length-take-le bytes out sent-inside, facts .most, h .room)
+      sent-room = omega (arith, end-room n caps limit k w s q l h (omega arith), length-take-le bytes out sent-inside, facts .most, h .room)
 
       pub sent-few : extras ≤ 1
       sent-few = facts .few
@@ -94,15 +94,15 @@ module _ (n cap limit k : ℕ) (w : World) (s : Stored) (q l : List ℕ) (h : Ho
           → l′ ≡ write l (s .end) (take bytes out) → SendDone (outcome.Sent extras) s′ l′
       send-sent s′ l′ es el =
           let f = facts in
-          subst (λ (x : AfterStep). (outcome.Sent extras ≡ x .outcome) × Holds n cap limit (k + 1) (x .world) s′ q l′)
+          subst (λ (x : AfterStep). (outcome.Sent extras ≡ x .outcome) × Holds n caps limit (k + 1) (x .world) s′ q l′)
           (sym (send-goes ∙ ap (afterSent w i j c) t)) (
             refl,
-            holds-after n cap limit k w s q l h short i hi (sends i j mover [] frameOutput) (c .result .node) (w .queues i) (sent (c .result .answer))
+            holds-after n caps limit k w s q l h short i hi (sends i j mover [] frameOutput) (c .result .node) (w .queues i) (sent (c .result .answer))
                 (c .out) q (take bytes out) (1 + extras)
-                (reached-send n cap k w (h .reached) i j mover frameOutput hi) refl (h .queues i hi) (λ x hx z. refl)
+                (reached-send n caps k w (h .reached) i j mover frameOutput hi) refl (h .queues i hi) (λ x hx z. refl)
                 (frames-joined (take (bytesIssued (sent (c .result .answer))) (c .out))
                 ∙ ap₂ (λ (x : ℕ) (y : List ℕ). take x y) tells (ap (λ (x : AfterSend). x .out) same))
                 (ap (λ (x : ℕ). length (framesIn (take x (c .out)))) tells ∙ wrote-frames (f .wrote) ∙ f .many)
-                (omega (arith, f .few, h .range .atLeast2)) sent-room s′ l′
+                (omega (arith, f .few, h .least)) sent-room s′ l′
                 (es ∙ ap (λ (x : AfterSend). storedAfter s i (x .result .node) (1 + extras) (length (take bytes out))) (sym same)) el,
           )

@@ -8,6 +8,10 @@ use Rattle.node.specs.declared.SetUpAnswer.{SetUpAnswer}
 use Rattle.node.specs.declared.SetUpAnswer.the-variants.{Refused, Ready}
 use Rattle.node.specs.SetUp.{setUp}
 
+-- the cap of node i
+abbrev pub capOf : List ℕ → ℕ → ℕ
+capOf caps i = getD caps i 0
+
 -- nodes of a simulation at most
 abbrev pub maxSimulated : ℕ
 maxSimulated = 4
@@ -25,4 +29,4 @@ capTaken n i cap = leb n i || isReady (setUp i n cap .answer)
 unfoldable pub startable : ℕ → List ℕ → Bool
 startable n caps =
     leb 2 n && leb n maxSimulated
-    && capTaken n 0 (getD caps 0 0) && capTaken n 1 (getD caps 1 0) && capTaken n 2 (getD caps 2 0) && capTaken n 3 (getD caps 3 0)
+    && capTaken n 0 (capOf caps 0) && capTaken n 1 (capOf caps 1) && capTaken n 2 (capOf caps 2) && capTaken n 3 (capOf caps 3)

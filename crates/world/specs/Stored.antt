@@ -4,7 +4,7 @@ use mathlib.Core.List.{List, [], _∷_, _++_}
 use mathlib.Core.Path.{_≡_}
 use lib.ListN.{length, getD, set, take, drop}
 use Rattle.wire.specs.Limits.{maxFrame}
-use Rattle.matrix.specs.Message.{InRange}
+use Rattle.matrix.specs.Message.{EachInRange}
 use Rattle.arrival.specs.CheckedFrame.{CheckedFrame}
 use Rattle.holdback.specs.Slots.{queueSize}
 use Rattle.node.specs.declared.Node.{Node as Record}
@@ -13,7 +13,7 @@ use Rattle.node.specs.Sizes.{outSize}
 use Rattle.causality.specs.Demand3.{World}
 use Rattle.world.specs.declared.Stepped.{Stepped}
 use Rattle.world.specs.declared.World.{World as Stored}
-use Rattle.world.specs.Start.{maxSimulated}
+use Rattle.world.specs.Start.{capOf, maxSimulated}
 use Rattle.world.specs.Reached.{Reached}
 use Rattle.world.specs.Steps.{frames}
 
@@ -49,7 +49,7 @@ queueAt q i = take queueSize (drop (queueSize * i) q)
 
 -- set-up's record for node i
 abbrev pub freshFor : ℕ → List ℕ → ℕ → Record
-freshFor n caps i = setUp i n (getD caps i 0) .node
+freshFor n caps i = setUp i n (capOf caps i) .node
 
 -- what set-up leaves for each node, with its cap; nothing issued
 unfoldable pub fresh : ℕ → List ℕ → Stored
@@ -59,10 +59,11 @@ fresh n caps = record { n = n; nodes = freshFor n caps 0 ∷ freshFor n caps 1 �
 
 -- the world w, which at most k steps led to, is stored in s, the queues q and the log l
 -- below: a step that issues finds n issues left, and issues at most n
-pub record Holds (n cap limit k : ℕ) (w : World) (s : Stored) (q l : List ℕ) : Type 0 where
-  pub range : InRange n cap
+pub record Holds (n : ℕ) (caps : ℕ → ℕ) (limit k : ℕ) (w : World) (s : Stored) (q l : List ℕ) : Type 0 where
+  pub range : EachInRange n caps
+  pub least : 2 ≤ n
   pub few : n ≤ maxSimulated
-  pub reached : Reached n cap k w
+  pub reached : Reached n caps k w
   pub nodes : s .n ≡ n
   pub array : length (s .nodes) ≡ maxSimulated
   pub records : (i : ℕ) → i < n → getD (s .nodes) i noRecord ≡ w .records i
@@ -77,11 +78,11 @@ pub record Holds (n cap limit k : ℕ) (w : World) (s : Stored) (q l : List ℕ)
 -- some world is, and further steps are allowed
 pub record Standing (limit : ℕ) (s : Stored) (q l : List ℕ) : Type 0 where
   pub n : ℕ
-  pub cap : ℕ
+  pub caps : ℕ → ℕ
   pub k : ℕ
   pub world : World
   pub more : k + 1 < 1000000000
-  pub holds : Holds n cap limit k world s q l
+  pub holds : Holds n caps limit k world s q l
 
 -- the same, where the queues are not lent
 abbrev pub StandingRecords : ℕ → Stored → List ℕ → Type 0

@@ -16,9 +16,9 @@ ghost use Rattle.world.specs.Steps.{deliverStep};
 /// Delivers at node `at`; 17 where it is no node or fewer than n of the limit's issues are left.
 pub fn deliver(w: World, limit: usize, at: usize, queues: &mut [u8], log: &mut [u8]) -> Stepped
     requires { ⌜ (limit < 1000000) × Standing limit w (now queues) (now log) ⌝ }
-    ensures { λ r. ⌜ (r .at < maxSimulated) × ((n cap k : ℕ) (v : Lists) → k + 1 < 1000000000 → Holds n cap limit k v w (now (queues .entry)) (now (log .entry))
+    ensures { λ r. ⌜ (r .at < maxSimulated) × ((n : ℕ) (caps : ℕ → ℕ) (k : ℕ) (v : Lists) → k + 1 < 1000000000 → Holds n caps limit k v w (now (queues .entry)) (now (log .entry))
         → (r .outcome ≡ deliverStep n limit v at .outcome)
-        × Holds n cap limit (k + 1) (deliverStep n limit v at .world) (storedBy w r) (now (queues .exit)) (now (log .exit))) ⌝ }
+        × Holds n caps limit (k + 1) (deliverStep n limit v at .world) (storedBy w r) (now (queues .exit)) (now (log .exit))) ⌝ }
 {
     if w.n <= at {
         return store::unchanged(w, Outcome::Refused(17));

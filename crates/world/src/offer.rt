@@ -16,9 +16,9 @@ ghost use Rattle.world.specs.Steps.{offerStep};
 /// Offers an issue, counted from 1, at its destination; 17 where it was not made.
 pub fn offer(w: World, limit: usize, issue: usize, queues: &mut [u8], log: &[u8]) -> Stepped
     requires { ⌜ Standing limit w (now queues) (now log) ⌝ }
-    ensures { λ r. ⌜ (r .at < maxSimulated) × ((n cap k : ℕ) (v : Lists) → k + 1 < 1000000000 → Holds n cap limit k v w (now (queues .entry)) (now (log .entry))
+    ensures { λ r. ⌜ (r .at < maxSimulated) × ((n : ℕ) (caps : ℕ → ℕ) (k : ℕ) (v : Lists) → k + 1 < 1000000000 → Holds n caps limit k v w (now (queues .entry)) (now (log .entry))
         → (r .outcome ≡ offerStep v issue .outcome)
-        × Holds n cap limit (k + 1) (offerStep v issue .world) (storedBy w r) (now (queues .exit)) (now (log .entry))) ⌝ }
+        × Holds n caps limit (k + 1) (offerStep v issue .world) (storedBy w r) (now (queues .exit)) (now (log .entry))) ⌝ }
 {
     if issue == 0 {
         return store::unchanged(w, Outcome::Refused(17));

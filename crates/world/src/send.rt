@@ -16,8 +16,8 @@ ghost use Rattle.world.specs.Steps.{sendStep};
 /// Sends an empty body, which any class may, from node `from` to node `to`, as a mover; 17 where `from` is no node or fewer than n of the limit's issues are left.
 pub fn send(w: World, limit: usize, from: usize, to: usize, log: &mut [u8]) -> Stepped
     requires { ⌜ (limit < 1000000) × StandingRecords limit w (now log) ⌝ }
-    ensures { λ r. ⌜ (r .at < maxSimulated) × ((n cap k : ℕ) (v : Lists) (q : List ℕ) → k + 1 < 1000000000 → Holds n cap limit k v w q (now (log .entry))
-        → (r .outcome ≡ sendStep n limit v from to .outcome) × Holds n cap limit (k + 1) (sendStep n limit v from to .world) (storedBy w r) q (now
+    ensures { λ r. ⌜ (r .at < maxSimulated) × ((n : ℕ) (caps : ℕ → ℕ) (k : ℕ) (v : Lists) (q : List ℕ) → k + 1 < 1000000000 → Holds n caps limit k v w q (now (log .entry))
+        → (r .outcome ≡ sendStep n limit v from to .outcome) × Holds n caps limit (k + 1) (sendStep n limit v from to .world) (storedBy w r) q (now
         (log .exit))) ⌝ }
 {
     if w.n <= from {

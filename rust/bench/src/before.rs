@@ -1,15 +1,11 @@
-//! The calls of a plant whose sum counts each byte once, and of the present one, in one run (feature `before`).
+//! The calls of an archive before nodes could differ in cap, and of the present one, in one run (feature `before`).
 //!
-//! The earlier archive is a `libhost.a` with the present parameters and the old sum. It works on the same states with old
-//! sums: in their images, in the held frames, and in the offered frame. What both leave has to be the same but for these
-//! sums, so that both do the same work.
+//! The earlier archive is a `libhost.a` with the present parameters and the present sum. Both work on the same states, in
+//! which a frame has the cap of the node that holds it or is offered it, so that both take it; what both leave has to be
+//! the same.
 
-use crate::calls::{same, time, Bench, Side};
-use crate::rows::{rows, Call, Row, MOVER};
-use reference::draft::write_old_sum;
-use reference::frame::Frame;
-use reference::host::read_answer;
-use reference::Record;
+use crate::calls::{time, Bench, Side};
+use crate::rows::{rows, Call, MOVER};
 
 /// Lent bytes that may be written; a slice is followed by its length.
 type Bytes = *mut u8;
@@ -58,45 +54,12 @@ const SIDES: [Side; 2] = [
     side!(after_set_up, after_send, after_offer, after_deliver),
 ];
 
-/// Writes old sums into the frames that lie end to end from the front of the bytes; that of zeros is zero.
-fn age_frames(mut bytes: &mut [u8]) {
-    while let Some(length) = Frame::first_of(bytes).map(|frame| frame.bytes().len()) {
-        let (frame, rest) = bytes.split_at_mut(length);
-        write_old_sum(frame);
-        bytes = rest;
-    }
-}
-
-/// Writes old sums into all that is lent: the image, the frames of the queue, and those that the answer says were issued.
-fn age(bench: &mut Bench) {
-    write_old_sum(&mut bench.image);
-    bench.shelf.chunks_exact_mut(Record::FRAME).for_each(age_frames);
-    age_frames(&mut bench.out[..read_answer(&bench.answer).bytes]);
-}
-
-/// The row as the earlier archive gets it.
-fn aged(row: &Row) -> Row {
-    let Row { name, mut lent, mut call } = row.clone();
-    lent.iter_mut().for_each(age);
-    if let Call::Offer { frame } = &mut call {
-        write_old_sum(frame);
-    }
-    Row { name, lent, call }
-}
-
-/// Whether both left the same but for the sums.
-fn same_but_for_sums(before: &Bench, after: &Bench) -> bool {
-    let mut after = after.clone();
-    age(&mut after);
-    same(before, &after)
-}
-
 /// Every row, before and after.
 pub fn table() {
     println!("\n| call | before | after | ratio |");
     println!("|---|---|---|---|");
     for row in [4, 12].into_iter().flat_map(rows) {
-        if let Some([before, after]) = time([&aged(&row), &row], SIDES, same_but_for_sums) {
+        if let Some([before, after]) = time(&row, SIDES) {
             println!("| {} | {before:.0} | {after:.0} | {:.3} |", row.name, after / before);
         }
     }

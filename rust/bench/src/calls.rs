@@ -78,24 +78,23 @@ fn round(copies: &mut [Bench], row: &Row, turn: usize, side: Side) -> f64 {
     time / copies.len() as f64
 }
 
-/// Times two sides in turn, each on the states of its row, the first of them changing from round to round, and gives their
-/// medians; nothing where the row is not wanted. The check is made on each state before, of what both sides returned and
-/// left.
-pub fn time(rows: [&Row; 2], sides: [Side; 2], check: fn(&Bench, &Bench) -> bool) -> Option<[f64; 2]> {
-    let name = &rows[0].name;
+/// Times two sides of a row in turn, the first of them changing from round to round, and gives their medians; nothing where
+/// the row is not wanted. In each of its states both have to return and leave the same.
+pub fn time(row: &Row, sides: [Side; 2]) -> Option<[f64; 2]> {
+    let name = &row.name;
     if !is_wanted(name) {
         return None;
     }
-    for (one, other) in rows[0].lent.iter().zip(&rows[1].lent) {
-        let mut after = [one.clone(), other.clone()];
-        let numbers = [0, 1].map(|side| sides[side](&rows[side].call, &mut after[side]));
-        assert!(numbers[0] == numbers[1] && check(&after[0], &after[1]), "{name}: the sides differ");
+    for lent in &row.lent {
+        let mut after = [lent.clone(), lent.clone()];
+        let numbers = [0, 1].map(|side| sides[side](&row.call, &mut after[side]));
+        assert!(numbers[0] == numbers[1] && same(&after[0], &after[1]), "{name}: the sides differ");
     }
-    let mut copies = vec![rows[0].lent[0].clone(); COPIES];
+    let mut copies = vec![row.lent[0].clone(); COPIES];
     let mut times = [Vec::new(), Vec::new()];
     for turn in 0..WARM_UP + ROUNDS {
         for place in [turn % 2, (turn + 1) % 2] {
-            let time = round(&mut copies, rows[place], turn, sides[place]);
+            let time = round(&mut copies, row, turn, sides[place]);
             if turn >= WARM_UP {
                 times[place].push(time);
             }
@@ -105,7 +104,7 @@ pub fn time(rows: [&Row; 2], sides: [Side; 2], check: fn(&Bench, &Bench) -> bool
 }
 
 /// Whether both left the same image, buffers and answer.
-pub fn same(one: &Bench, other: &Bench) -> bool {
+fn same(one: &Bench, other: &Bench) -> bool {
     let buffers = one.shelf == other.shelf && one.out == other.out && one.body == other.body;
     one.image == other.image && one.answer == other.answer && buffers
 }

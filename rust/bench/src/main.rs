@@ -15,7 +15,7 @@ mod rows;
 mod states;
 mod trails;
 
-use calls::{plain, proved, same, time, COPIES, ROUNDS};
+use calls::{plain, proved, time, COPIES, ROUNDS};
 
 /// A row for each call and state.
 fn calls_table() {
@@ -23,7 +23,7 @@ fn calls_table() {
     println!("| call | proved | reference | ratio |");
     println!("|---|---|---|---|");
     for row in [4, 12].into_iter().flat_map(rows::rows) {
-        if let Some([proved, plain]) = time([&row, &row], [proved, plain], same) {
+        if let Some([proved, plain]) = time(&row, [proved, plain]) {
             println!("| {} | {proved:.0} | {plain:.0} | {:.2} |", row.name, proved / plain);
         }
     }

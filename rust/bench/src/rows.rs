@@ -11,7 +11,6 @@ const MERGES: u64 = 1024;
 pub const MOVER: usize = 0;
 
 /// A call with what it only reads; sends go to node 1.
-#[derive(Clone)]
 pub enum Call {
     SetUp { me: usize, n: usize, cap: usize },
     Send { body: Vec<u8> },
@@ -20,7 +19,6 @@ pub enum Call {
 }
 
 /// A row: a call on what is lent in a state, or in each of several in turn.
-#[derive(Clone)]
 pub struct Row {
     pub name: String,
     pub lent: Vec<Bench>,

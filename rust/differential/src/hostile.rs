@@ -21,18 +21,19 @@ const BETWEEN: usize = 50;
 /// lists did.
 pub fn hostile(random: &mut Random, steps: usize, totals: Totals) -> Step<Totals> {
     let n = records::any_n(random);
-    let cap = any_cap(random, n);
-    let mut pairs = Pairs::start_with(n, cap, totals)?;
+    let caps = any_caps(random, n);
+    let mut pairs = Pairs::start_with(&caps, totals)?;
     let (sends, delivers) = (random.within(1, 4), random.within(1, 4));
     let starved = if random.once_in(2) { random.below(steps) } else { steps };
-    let at_bound = [large_cap(n) - 1, large_cap(n)].contains(&cap);
-    let filled = if at_bound || random.once_in(4) { random.below(steps) } else { steps };
+    let at_bound = caps.iter().position(|cap| [large_cap(n) - 1, large_cap(n)].contains(cap));
+    let filled = if at_bound.is_some() || random.once_in(4) { random.below(steps) } else { steps };
     for index in 0..steps {
         if index == starved {
             starve(random, &mut pairs)?;
         }
         if index == filled {
-            fill(random, &mut pairs)?;
+            let node = at_bound.unwrap_or_else(|| random.below(n));
+            fill(random, &mut pairs, node)?;
         }
         let node = random.below(n);
         match random.below(sends + delivers + 4) {
@@ -58,7 +59,17 @@ pub fn hostile(random: &mut Random, steps: usize, totals: Totals) -> Step<Totals
     pairs.end()
 }
 
-/// A cap for n nodes, in every second list at or beside the least one under which no extra frame is issued.
+/// A cap for each of n nodes: in every second list one for all, in the others the least beside the largest, or any.
+fn any_caps(random: &mut Random, n: usize) -> Vec<usize> {
+    let one = any_cap(random, n);
+    match random.below(4) {
+        0 | 1 => vec![one; n],
+        2 => (0..n).map(|_| random.pick(&[n, n * n])).collect(),
+        _ => (0..n).map(|_| any_cap(random, n)).collect(),
+    }
+}
+
+/// A cap among n nodes, in every second case at or beside the least one under which no extra frame is issued.
 fn any_cap(random: &mut Random, n: usize) -> usize {
     let large = large_cap(n);
     if random.once_in(2) {
@@ -93,9 +104,8 @@ fn starve(random: &mut Random, pairs: &mut Pairs) -> Step<()> {
 }
 
 /// Lets a node know of a frame from every node to every other, so that its matrix becomes full, or is trimmed on the way.
-fn fill(random: &mut Random, pairs: &mut Pairs) -> Step<()> {
+fn fill(random: &mut Random, pairs: &mut Pairs, node: usize) -> Step<()> {
     let n = pairs.n();
-    let node = random.below(n);
     for from in (node..n).chain(0..node) {
         for to in (0..n).filter(|to| *to != from && *to != node) {
             pairs.send(from, to, random.below(CLASSES), &[])?;

@@ -3,6 +3,7 @@
 #![forbid(unsafe_code)]
 
 pub mod arguments;
+pub mod caps;
 pub mod ceilings;
 pub mod crafted;
 pub mod difference;

@@ -4,6 +4,7 @@
 //! and buffers are compared, and what both answered goes into the list's history, of which demand 3's conclusions and the
 //! ceiling on extras are then checked.
 
+use crate::caps::Caps;
 use crate::ceilings::Ceilings;
 use crate::pair::{judge, run_lent, Lent};
 use crate::Difference;
@@ -56,6 +57,7 @@ pub struct Totals {
     pub issued: usize,
     pub counts: Counts,
     pub reached: Reached,
+    pub caps: Caps,
     pub ceilings: Ceilings,
 }
 
@@ -132,25 +134,27 @@ impl Display for Failure {
 
 impl Display for Totals {
     fn fmt(&self, f: &mut Formatter<'_>) -> std::fmt::Result {
-        let Totals { steps, issued, counts, reached, ceilings } = self;
-        writeln!(f, "{}{reached:#?}\n{ceilings}", counts.table())?;
+        let Totals { steps, issued, counts, reached, caps, ceilings } = self;
+        writeln!(f, "{}{reached:#?}\n{caps:#?}\n{ceilings}", counts.table())?;
         write!(f, "{steps} steps compared, {issued} frames issued and delivered in causal order, no difference")
     }
 }
 
 impl Pairs {
-    /// A list before its first step; n and cap have to be in range.
-    pub fn start(n: usize, cap: usize) -> Step<Pairs> {
-        Pairs::start_with(n, cap, Totals::default())
+    /// A list of nodes with these caps before its first step; their number and the caps have to be in range.
+    pub fn start(caps: &[usize]) -> Step<Pairs> {
+        Pairs::start_with(caps, Totals::default())
     }
 
     /// The same, with what earlier lists came to.
-    pub fn start_with(n: usize, cap: usize, totals: Totals) -> Step<Pairs> {
-        let history = History::start(n, cap);
+    pub fn start_with(caps: &[usize], totals: Totals) -> Step<Pairs> {
+        let history = History::start(caps);
         let (seats, issued, reports) = (Vec::new(), Vec::new(), Vec::new());
         let mut pairs = Pairs { seats, issued, history, totals, reports, steps: 0 };
-        for me in 0..n {
-            let case = Case { image: vec![FILL; IMAGE], ..Case::alone(Call::SetUp { me, n, cap }) };
+        pairs.totals.caps.list(caps);
+        for (me, cap) in caps.iter().enumerate() {
+            let call = Call::SetUp { me, n: caps.len(), cap: *cap };
+            let case = Case { image: vec![FILL; IMAGE], ..Case::alone(call) };
             let found = run_lent(case.image.clone(), &case.call, &mut Buffers::default());
             let expected = pairs.check(&case, &found, &Buffers::default())?;
             let empty = vec![0; shelf::LENGTH];
@@ -163,6 +167,11 @@ impl Pairs {
     /// The number of nodes.
     pub fn n(&self) -> usize {
         self.seats.len()
+    }
+
+    /// The caps of the nodes.
+    pub fn caps(&self) -> Vec<usize> {
+        self.seats.iter().map(|seat| seat.record().cap as usize).collect()
     }
 
     /// A send at a node, by any class.
@@ -187,6 +196,7 @@ impl Pairs {
         if let OfferAnswer::Held { .. } = answer {
             let issue = self.history.offer(node, frame)?;
             ensure(self.issued[issue] == frame, || format!("issue {issue} was held with other bytes"))?;
+            self.totals.caps.held(&self.seats[node].record(), frame_of(frame))?;
         }
         self.note_report(ceiling::Step::offer(node), &outcome);
         self.note_offer(node, answer);
@@ -214,7 +224,9 @@ impl Pairs {
             DeliverAnswer::Delivered(delivery) => {
                 self.note_issued(&outcome.buffers.out[..delivery.bytes])?;
                 let body = &outcome.buffers.body_out[..delivery.body];
-                self.history.delivery(node, &delivery, body, &self.issued[first..])?;
+                let issue = self.history.delivery(node, &delivery, body, &self.issued[first..])?;
+                let record = self.seats[node].record();
+                self.totals.caps.delivered(&record, frame_of(&self.issued[issue]), delivery.extras);
             }
             DeliverAnswer::None { .. } => self.history.none(node),
             DeliverAnswer::Refused(number) => return Err(format!("a deliver in a list gave {number}").into()),
@@ -369,7 +381,7 @@ impl Pairs {
         }
     }
 
-    /// The matrix that a node keeps is within the cap, and as many frames are held as the history says.
+    /// The matrix that a node keeps is within its own cap, and as many frames are held as the history says.
     fn check_node(&self, node: usize) -> Step<()> {
         let record = self.seats[node].record();
         let (standing, held) = (record.standing(), self.history.held_at(node));
@@ -392,11 +404,16 @@ impl Pairs {
 
     /// Holds what all steps reported to the ceiling on extras; gives what the lists came to, this one the last.
     pub fn end(mut self) -> Step<Totals> {
-        let caps: Vec<usize> = self.seats.iter().map(|seat| seat.record().cap as usize).collect();
-        let counts = ceiling::check(&caps, &self.reports, &self.issued)?;
-        self.totals.ceilings.add(self.n(), caps[0], counts);
+        let caps = self.caps();
+        ceiling::check(&caps, &self.reports, &self.issued)?;
+        self.totals.ceilings.add(&caps, &self.reports);
         self.totals.steps += self.steps;
         self.totals.issued += self.issued.len();
         Ok(self.totals)
     }
+}
+
+/// The frame that these bytes are.
+fn frame_of(bytes: &[u8]) -> Frame<'_> {
+    Frame::first_of(bytes).expect("an issued frame is whole")
 }

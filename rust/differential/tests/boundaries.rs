@@ -2,7 +2,7 @@
 //! a list on both implementations.
 
 use differential::lists::{Pairs, Step};
-use reference::boundary::{self, Steps};
+use reference::boundary::{self, Steps, CAPS_OF_846};
 use reference::ceiling::{large_cap, Counts};
 use reference::*;
 
@@ -34,11 +34,16 @@ impl Steps for Same {
 
 /// Runs a list of n nodes with this cap, whose conclusions must hold; gives what its answers came to.
 fn run<T>(n: usize, cap: usize, steps: impl FnOnce(&mut Same) -> T) -> Counts {
-    let mut list = Same(same(Pairs::start(n, cap)));
+    run_with(&vec![cap; n], steps)
+}
+
+/// The same with a cap for each node.
+fn run_with<T>(caps: &[usize], steps: impl FnOnce(&mut Same) -> T) -> Counts {
+    let mut list = Same(same(Pairs::start(caps)));
     steps(&mut list);
     same(list.0.check_conclusions());
-    let (lists, counts) = same(list.0.end()).ceilings.of(|_, _| true);
-    assert_eq!(lists, 1);
+    let (nodes, counts) = same(list.0.end()).ceilings.of(|_, _| true);
+    assert_eq!(nodes, caps.len());
     counts
 }
 
@@ -61,6 +66,24 @@ fn a_delivery_of_504_bytes() {
 }
 
 #[test]
+fn a_delivery_of_846_bytes() {
+    let counts = run_with(&CAPS_OF_846, boundary::delivery_of_846);
+    assert_eq!((counts.several, counts.most), (1, 11));
+}
+
+#[test]
+fn frames_of_more_entries_than_the_receivers_cap() {
+    for n in 3..=12 {
+        for large in [large_cap(n), n * n] {
+            let caps = [vec![large], vec![n; n - 1]].concat();
+            let extras = if n == 3 { 0 } else { n - 2 };
+            let counts = run_with(&caps, |list| boundary::more_than_the_cap(list, n));
+            assert_eq!((counts.extras_of_sends, counts.extras_of_deliveries), (0, extras), "{n} nodes");
+        }
+    }
+}
+
+#[test]
 fn sixteen_frames_of_802_bytes() {
     assert_eq!(run(12, 144, boundary::sixteen_of_802).extras(), 0);
 }
@@ -79,8 +102,13 @@ fn a_send_that_issues_its_one_extra() {
 #[test]
 fn both_sides_of_a_large_cap() {
     for n in 3..=12 {
-        let extras = |cap| run(n, cap, |list| boundary::full_matrix(list, n)).extras();
         let large = large_cap(n);
-        assert_eq!([large - 1, large, large + 1, n * n].map(extras), [1, 0, 0, 0], "{n} nodes");
+        let caps = [large - 1, large, large + 1, n * n];
+        // It is the node's own cap that counts, whatever the others' are.
+        for others in [n, large, n * n] {
+            let with = |cap: usize| [vec![cap], vec![others; n - 1]].concat();
+            let extras = |cap| run_with(&with(cap), |list| boundary::full_matrix(list, n)).extras();
+            assert_eq!(caps.map(extras), [1, 0, 0, 0], "{n} nodes");
+        }
     }
 }

@@ -1,9 +1,9 @@
 //! A bounded share of the calls that `compare` runs: every refusal of every call is among them, every way to damage an
-//! image, and both sides of every length's bound.
+//! image, and both sides of every bound of a length and of a frame's cap.
 
 use differential::program::Programs;
 use differential::run::{Cases, Tally};
-use generate::counts::{Counts, Lent};
+use generate::counts::{Counts, Lent, Place};
 use generate::images::damages;
 use generate::Made;
 
@@ -73,7 +73,7 @@ fn check_refusals(counts: &Counts) {
             assert!(met >= LEAST, "{call} gave {number} only {met} times");
         }
     }
-    assert_eq!(["send", "deliver", "offer"].map(|call| counts.largest(call)), [814, 504, 802]);
+    assert_eq!(["send", "deliver", "offer"].map(|call| counts.largest(call)), [814, 846, 802]);
 }
 
 /// Each way to damage an image is met often enough at each call that reads it, and so are images as written. Where the
@@ -118,6 +118,16 @@ fn check_lengths(counts: &Counts) {
     }
 }
 
+/// Frames with caps and entries on both sides of every bound, and beside the node's own cap, have given these numbers often
+/// enough: offered, held and written to a trail.
+fn check_caps(counts: &Counts) {
+    for (call, place) in [("offer", Place::Offered), ("offer", Place::Held), ("deliver", Place::Held)] {
+        assert_eq!(counts.missed(call, place, SELDOM), [], "{call}, {place:?}");
+    }
+    // A write is a rarer call.
+    assert_eq!(counts.missed("write", Place::Written, SELDOM / 3), []);
+}
+
 #[test]
 fn calls_of_four_seeds() {
     let seeds = [101, 202, 303, 404].map(|seed| std::thread::spawn(move || run(seed)));
@@ -127,5 +137,6 @@ fn calls_of_four_seeds() {
         check_refusals(&counts);
         check_images(&counts);
         check_lengths(&counts);
+        check_caps(&counts);
     }
 }

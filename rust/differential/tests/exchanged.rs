@@ -65,7 +65,7 @@ fn before_offer(list: &List, issue: usize) -> State {
 
 /// The states of the largest frame, 802 bytes, and of the user frame and the extra frame of the largest send.
 fn boundary_states() -> [State; 3] {
-    let [mut first, mut second] = [144, 110].map(|cap| List::start(12, cap).expect("n and cap are in range"));
+    let [mut first, mut second] = [144, 110].map(|cap| List::alike(12, cap).expect("n and cap are in range"));
     let largest = boundary::frame_of_802(&mut first);
     let extra = boundary::send_of_814(&mut second);
     [before_offer(&first, largest), before_offer(&second, extra - 1), before_offer(&second, extra)]
@@ -233,7 +233,7 @@ fn try_frame(met: &mut Met, frames: &[Vec<u8>], index: usize) {
         let class = if place + 1 < frame.len() { class_of(frame, place) } else { class_between(&file, start + place) };
         let (shown, most) = match class {
             "unequal" => (behind.clone(), Err(19)),
-            "equal" => (whole.shown.clone(), walked.most.clone()),
+            "equal" => (whole.shown.clone(), walked.most),
             "at the sum" => (walked.shown.clone(), Err(19)),
             _ => (behind[..behind.len() - 1].to_vec(), Err(19)),
         };

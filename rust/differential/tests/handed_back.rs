@@ -3,6 +3,7 @@
 use differential::compare;
 use differential::lists::{Pairs, Step, Totals};
 use generate::counts::Counts;
+use generate::records::any_caps;
 use generate::states::{any_state, reach_limit, State};
 use generate::{frames, Buffers, Call, Case};
 use reference::node::OUTPUT;
@@ -84,8 +85,8 @@ fn sound_states_stay_sound() {
 /// in so many steps, so that some shelves fill up.
 fn run_list(random: &mut Random, totals: Totals) -> Step<Totals> {
     let n = random.within(2, 12);
-    let (cap, rest) = (random.within(n, n * n), random.pick(&[1, 2, 20]));
-    let mut pairs = Pairs::start_with(n, cap, totals)?;
+    let (caps, rest) = (any_caps(random, n), random.pick(&[1, 2, 20]));
+    let mut pairs = Pairs::start_with(&caps, totals)?;
     for _ in 0..600 {
         let node = random.below(n);
         let issues = pairs.issued.len();

@@ -7,6 +7,7 @@ use generate::trails::Trails;
 use generate::{Answer, Call, Case, Outcome, Walked};
 use host::trail::{largest, write, Shown, Walk};
 use host::Refusal;
+use reference::boundary::CAPS_OF_846;
 use reference::frame::EXTRA;
 use reference::list::List;
 use reference::random::Random;
@@ -21,11 +22,14 @@ const WALKS: usize = 30_000;
 const OTHERS: usize = 10_000;
 
 /// Why a walk or a step is refused.
-const FAULTS: [&str; 8] = [
+const FAULTS: [&str; 11] = [
     "w is out of range",
     "too short for a trailer",
     "a trailer points before the start",
-    "n or cap is out of range",
+    "n is out of range",
+    "the cap is below n",
+    "the cap is above n x n",
+    "e is above the frame's cap",
     "the frame meets 8",
     "the frame meets 9",
     "the frame meets 10",
@@ -144,7 +148,7 @@ fn trails_cut_at_every_byte() {
         }
     }
     println!("cut:\n{}", met.table());
-    met.check("walk", &["the start", FAULTS[1], FAULTS[2], FAULTS[4]], 100);
+    met.check("walk", &["the start", FAULTS[1], FAULTS[2], "the frame meets 8"], 100);
 }
 
 #[test]
@@ -249,9 +253,10 @@ fn a_refused_write_and_a_refused_walk() {
     assert_eq!((walk.left(), walk.largest()), (file.len(), None));
 }
 
-/// The frames that the nodes of a list deliver, in that order, over links that lose and reorder a few.
-fn delivered(random: &mut Random, n: usize, cap: usize, steps: usize) -> Vec<Vec<u8>> {
-    let mut list = List::start(n, cap).expect("n and cap are in range");
+/// The frames that the nodes of a list with these caps deliver, in that order, over links that lose and reorder a few.
+fn delivered(random: &mut Random, caps: &[usize], steps: usize) -> Vec<Vec<u8>> {
+    let mut list = List::start(caps).expect("n and the caps are in range");
+    let n = list.n();
     let mut frames = Vec::new();
     for _ in 0..steps {
         let (from, to, length) = (random.below(n), random.below(n), random.below(65));
@@ -275,13 +280,15 @@ fn delivered(random: &mut Random, n: usize, cap: usize, steps: usize) -> Vec<Vec
 fn the_frames_that_a_plant_delivers() {
     let mut random = Random::new(716);
     let (mut users, mut extras) = (0, 0);
-    for (n, cap) in [(2, 2), (3, 3), (4, 4), (4, 16), (7, 9), (12, 12), (12, 144)] {
-        let frames = delivered(&mut random, n, cap, 300);
+    let plants: [&[usize]; 8] =
+        [&[2; 2], &[3; 3], &[4; 4], &[4, 16, 4, 9], &[9; 7], &[12; 12], &[144; 12], &CAPS_OF_846];
+    for caps in plants {
+        let frames = delivered(&mut random, caps, 300);
         let file = written(&frames, 0);
         (1..=64).for_each(|w| check_shown(&file, &frames, w));
         let count = extras_of(&frames).into_iter().filter(|extra| *extra).count();
         (users, extras) = (users + frames.len() - count, extras + count);
     }
-    println!("{users} user frames and {extras} extra frames in 7 trails");
+    println!("{users} user frames and {extras} extra frames in 8 trails");
     assert!(users > 500 && extras > 100, "{users} {extras}");
 }

@@ -4,7 +4,9 @@
 use differential::program::{compiled, complaint, from_top, Programs};
 use differential::run::{compare_inputs, fates_of_inputs};
 use differential::stored;
-use generate::{Call, Generator};
+use generate::first_line::FirstLine;
+use generate::{Call, Case, Generator};
+use std::collections::BTreeMap;
 
 /// Seeds of the generated inputs.
 const SEEDS: [u64; 3] = [501, 502, 503];
@@ -24,15 +26,31 @@ fn generated_inputs() {
     }
 }
 
-#[test]
-fn generated_inputs_are_valid_and_damaged() {
-    let mut generator = Generator::new(SEEDS[0]);
-    let inputs = (0..INPUTS).map(|_| match generator.yard().call {
+/// The input of a yard.
+fn input_of(case: Case) -> Vec<u8> {
+    match case.call {
         Call::Yard { input } => input,
         other => panic!("{} is no yard", other.name()),
-    });
+    }
+}
+
+#[test]
+fn generated_inputs_are_valid_and_damaged() {
+    let inputs = Generator::cases(SEEDS[0], INPUTS, Generator::yard).map(input_of);
     let (alone, others): (Vec<_>, Vec<_>) = inputs.partition(|input| reference::yard(input) == b"R 17\n");
     assert!(alone.len() > 80 && others.len() > 1_200, "{} refused whole, {} not", alone.len(), others.len());
+}
+
+#[test]
+fn generated_inputs_have_first_lines_of_every_kind() {
+    let mut met = BTreeMap::<_, usize>::new();
+    let inputs = SEEDS.iter().flat_map(|seed| Generator::cases(*seed, INPUTS, Generator::yard)).map(input_of);
+    inputs.for_each(|input| *met.entry(FirstLine::of(&input)).or_default() += 1);
+    println!("{met:?}");
+    for line in FirstLine::all() {
+        let count = met.get(&line).copied().unwrap_or(0);
+        assert!(count >= 3, "{line:?} is met only {count} times");
+    }
 }
 
 #[test]

@@ -1,20 +1,51 @@
 //! How often each answer of each call is met.
 
+use crate::bounds::{met, Bound};
 use crate::case::{Answer, Buffers, Call, Case, Outcome};
 use crate::images::Made;
-use reference::{DeliverAnswer, OfferAnswer, SendAnswer};
+use crate::shelves::frame_at;
+use reference::{DeliverAnswer, OfferAnswer, Record, SendAnswer};
 use std::collections::BTreeMap;
 
 /// What a call is lent.
 pub type Lent = &'static str;
 
-/// Counts by call and by what was answered, by how its image was made, by the lengths that it was lent, and the most
-/// bytes that a call issued or held.
+/// Where a call is lent a frame: offered, held or written.
+#[derive(Clone, Copy, Debug, PartialEq, Eq, PartialOrd, Ord)]
+pub enum Place {
+    Offered,
+    Held,
+    Written,
+}
+
+impl Place {
+    /// The number that is due for a frame here which stands so, 0 where it is taken.
+    fn due(self, bound: Bound) -> u8 {
+        match (bound.check(), self) {
+            (None, _) => 0,
+            (Some(check), Place::Offered) => check,
+            (_, Place::Held) => 4,
+            (_, Place::Written) => 19,
+        }
+    }
+
+    /// What frames here can meet: a trail's have no node beside whose cap they stand.
+    fn bounds(self) -> &'static [Bound] {
+        match self {
+            Place::Written => &Bound::ALL[..Bound::ALONE],
+            _ => &Bound::ALL,
+        }
+    }
+}
+
+/// Counts by call and by what was answered, by how its image was made, by the lengths that it was lent, by how its frames'
+/// caps stand, and the most bytes that a call issued or held.
 #[derive(Clone, Debug, Default)]
 pub struct Counts {
     counts: BTreeMap<(&'static str, String), usize>,
     made: BTreeMap<(&'static str, Made, u8), usize>,
     lengths: BTreeMap<(&'static str, Lent, usize, u8), usize>,
+    bounds: BTreeMap<(&'static str, Place, Bound, u8), usize>,
     largest: BTreeMap<&'static str, usize>,
 }
 
@@ -29,6 +60,9 @@ impl Counts {
         for (lent, length) in lengths(case) {
             *self.lengths.entry((call, lent, length, number)).or_default() += 1;
         }
+        for (place, bound) in bounds(case) {
+            *self.bounds.entry((call, place, bound, number)).or_default() += 1;
+        }
         let largest = self.largest.entry(call).or_default();
         *largest = bytes_of(case, &outcome.answer).max(*largest);
     }
@@ -41,6 +75,20 @@ impl Counts {
     /// How often a call that was lent this with so many bytes gave a number, 0 where it was taken.
     pub fn of_length(&self, call: &'static str, lent: Lent, length: usize, number: u8) -> usize {
         self.lengths.get(&(call, lent, length, number)).copied().unwrap_or(0)
+    }
+
+    /// How often a call with a frame at this place that stands so gave a number, 0 where it was taken.
+    fn of_bound(&self, call: &'static str, place: Place, bound: Bound, number: u8) -> usize {
+        self.bounds.get(&(call, place, bound, number)).copied().unwrap_or(0)
+    }
+
+    /// What frames at this place of a call met less often than this with the number that is due, or met and were taken
+    /// where they must not be.
+    pub fn missed(&self, call: &'static str, place: Place, least: usize) -> Vec<(Bound, usize)> {
+        let due = |bound: &Bound| self.of_bound(call, place, *bound, place.due(*bound));
+        let wrong = |bound: &Bound| place.due(*bound) > 0 && self.of_bound(call, place, *bound, 0) > 0;
+        let missed = place.bounds().iter().filter(|bound| due(bound) < least || wrong(bound));
+        missed.map(|bound| (*bound, due(bound))).collect()
     }
 
     /// The most bytes that a send or a deliver issued, or that an offered and held frame had.
@@ -74,6 +122,34 @@ fn lengths(case: &Case) -> Vec<(Lent, usize)> {
         Call::Deliver => vec![image, answer, shelf, out, ("body output", body_out.len())],
         _ => vec![],
     }
+}
+
+/// How the caps and entries of the frames that a call is lent stand; of an offer and a deliver only where the image is
+/// sound and the frame has the record's n, and of a write where that is in range.
+fn bounds(case: &Case) -> Vec<(Place, Bound)> {
+    let at = |place, n: usize, own, frame: &[u8]| {
+        let same = frame.get(5).is_some_and(|byte| *byte as usize == n);
+        let met = if same { met(n, own, frame) } else { Vec::new() };
+        met.into_iter().map(move |bound| (place, bound))
+    };
+    if let Call::Write { frame, .. } = &case.call {
+        let n = frame.get(5).map_or(0, |n| *n as usize);
+        return if (2..=Record::NODES).contains(&n) {
+            at(Place::Written, n, None, frame).collect()
+        } else {
+            Vec::new()
+        };
+    }
+    let Some(Record { n, cap, held, .. }) = Record::of_sound_image(&case.image) else {
+        return Vec::new();
+    };
+    let beside = |place, frame: &[u8]| at(place, n as usize, Some(cap as usize), frame);
+    let shelf = (0..held as usize).filter_map(|place| frame_at(&case.buffers.shelf, place));
+    let mut bounds: Vec<_> = shelf.flat_map(|frame| beside(Place::Held, frame.bytes())).collect();
+    if let Call::Offer { frame } = &case.call {
+        bounds.extend(beside(Place::Offered, frame));
+    }
+    bounds
 }
 
 /// The bytes that a step issued, or that an offered and held frame has.

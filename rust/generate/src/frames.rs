@@ -1,7 +1,7 @@
 //! Frames for a record: sound ones, and ones that meet a check.
 
 use crate::neighbours::exchange;
-use crate::records::{any_count, TOP};
+use crate::records::{any_cap, any_count, TOP};
 use crate::topics::TOPICS;
 use reference::draft::{repair, repair_sum, write_old_sum, Draft};
 use reference::frame::{Entry, EXTRA, USER};
@@ -28,12 +28,23 @@ fn other_node(random: &mut Random, n: u8, node: u8) -> u8 {
     (node + 1 + random.below(n as usize - 1) as u8) % n
 }
 
+/// The cap of a sender beside the record's: the same, the largest, or any.
+fn senders_cap(random: &mut Random, record: &Record) -> usize {
+    let n = record.n as usize;
+    match random.below(4) {
+        0 | 1 => record.cap as usize,
+        2 => n * n,
+        _ => any_cap(random, n),
+    }
+}
+
 /// A frame for the record's node that meets none of 8 to 14, deliverable if asked for.
 pub fn sound(random: &mut Random, record: &Record, ready: bool) -> Draft {
     let from = other_node(random, record.n, record.me);
     let kind = if random.once_in(4) { EXTRA } else { USER };
     let body = if kind == USER { any_body(random) } else { Vec::new() };
-    let Record { me, n, cap, .. } = *record;
+    let Record { me, n, .. } = *record;
+    let cap = senders_cap(random, record) as u8;
     let mut draft = Draft { kind, from, to: me, n, cap, zero: 0, entries: Vec::new(), body };
     add_number(random, record, &mut draft, ready);
     add_entries(random, record, &mut draft, ready);
@@ -50,11 +61,12 @@ fn add_number(random: &mut Random, record: &Record, draft: &mut Draft, ready: bo
     }
 }
 
-/// Adds further entries, no more than cap allows, often all of them.
+/// Adds further entries, no more than the frame's cap allows, often all of them, and more often so where these are many.
 fn add_entries(random: &mut Random, record: &Record, draft: &mut Draft, ready: bool) {
     let mut free = free_places(record, draft);
-    let room = free.len().min(record.cap as usize - draft.entries.len());
-    let wanted = if random.once_in(4) { room } else { random.within(0, room.min(10)) };
+    let room = free.len().min(draft.cap as usize - draft.entries.len());
+    let times = if room > 100 { 2 } else { 4 };
+    let wanted = if random.once_in(times) { room } else { random.within(0, room.min(10)) };
     for _ in 0..wanted {
         let (row, column) = free.swap_remove(random.below(free.len()));
         if let Some(value) = entry_value(random, record, row, column, ready) {
@@ -137,12 +149,12 @@ fn damage_kind(random: &mut Random, draft: &mut Draft) {
     }
 }
 
-/// A wrong n or cap, or from or to not below n, or both equal.
+/// A wrong n, a cap out of range, or from or to not below n, or both equal.
 fn damage_parties(random: &mut Random, record: &Record, draft: &mut Draft) {
-    let Record { n, cap, .. } = *record;
+    let n = record.n;
     match random.below(6) {
         0 => draft.n = random.pick(&[n - 1, n + 1, 0, 255]),
-        1 => draft.cap = random.pick(&[cap - 1, cap + 1, 0, 255]),
+        1 => draft.cap = random.pick(&[n - 1, n * n + 1, 0, 255]),
         2 => draft.from = random.pick(&[n, n + 1, 255]),
         3 => draft.to = random.pick(&[n, n + 1, 255]),
         4 => draft.from = draft.to,
@@ -161,17 +173,22 @@ fn damage_parts(random: &mut Random, record: &Record, draft: &mut Draft) {
     }
 }
 
-/// Adds entries above the cap, in order and each sound as far as there is room.
+/// Adds entries of a user frame up to one above its cap, in order and each sound; where there is no room for so many, the
+/// cap is lowered as far as that can be.
 fn add_too_many(record: &Record, draft: &mut Draft) {
     let (n, from, to) = (record.n as usize, draft.from as usize, draft.to as usize);
+    draft.kind = USER;
     let all = (0..n).flat_map(|row| (0..n).map(move |column| (row, column)));
     for (row, column) in all.filter(|(row, column)| row != column && *column != from && *row != to) {
-        if draft.entries.len() > record.cap as usize {
+        if draft.entries.len() > draft.cap as usize {
             return;
         }
         if !draft.entries.iter().any(|entry| (entry.row, entry.column) == (row, column)) {
             draft.set(row, column, 1);
         }
+    }
+    if draft.entries.len() <= draft.cap as usize {
+        draft.cap = (draft.entries.len() - 1).max(n) as u8;
     }
 }
 
@@ -222,7 +239,7 @@ fn damage_destination(random: &mut Random, record: &Record, draft: &mut Draft) {
 fn claim_more(random: &mut Random, record: &Record, draft: &mut Draft) {
     let (me, n) = (record.me as usize, record.n as usize);
     let columns: Vec<usize> = (0..n).filter(|column| *column != me && *column != draft.from as usize).collect();
-    if columns.is_empty() || draft.entries.len() >= record.cap as usize {
+    if columns.is_empty() || draft.entries.len() >= draft.cap as usize {
         return;
     }
     let column = random.pick(&columns);
@@ -236,7 +253,7 @@ fn repeat_number(random: &mut Random, record: &Record, draft: &mut Draft) {
     let Some(delivered) = record.deliv.get(from).copied().filter(|count| *count > 0) else { return };
     draft.entries.retain(|entry| (entry.row, entry.column) != (from, to));
     let before = random.pick(&[delivered - 1, delivered / 2, 0]);
-    if before > 0 && draft.entries.len() < record.cap as usize {
+    if before > 0 && draft.entries.len() < draft.cap as usize {
         draft.set(from, to, before);
     }
 }
@@ -268,6 +285,22 @@ fn shift_count(random: &mut Random, bytes: &mut [u8]) {
     let count = u16::from_le_bytes([bytes[at], bytes[at + 1]]).wrapping_add(by);
     bytes[at..at + 2].copy_from_slice(&count.to_le_bytes());
     repair_sum(bytes);
+}
+
+/// Puts the cap of a whole frame of n nodes at or beside one of its bounds, or makes it as many as the frame's entries,
+/// under a right trailer; it may stay in range.
+pub fn move_cap(random: &mut Random, n: u8, bytes: &mut [u8]) {
+    let entries = bytes[3].clamp(n, n * n);
+    bytes[6] = random.pick(&[0, n - 1, n, n * n, n * n + 1, 255, entries]);
+    repair(bytes);
+}
+
+/// Bytes of a frame with one entry more than its cap, which meets 11 if n is above 3.
+pub fn overfull(random: &mut Random, record: &Record) -> Vec<u8> {
+    let ready = random.once_in(2);
+    let mut draft = sound(random, record, ready);
+    add_too_many(record, &mut draft);
+    draft.bytes()
 }
 
 /// An e or b that does not fit the length, under a right trailer.

@@ -3,7 +3,7 @@
 use crate::case::{Buffers, Call, Case};
 use crate::images::{any_image, any_length};
 use crate::records::{any_cap, any_n};
-use crate::states::{any_state, parted_state, reach_limit, Runner, State};
+use crate::states::{any_state, parted_state, reach_limit, told_state, Runner, State};
 use crate::topics::any_class;
 use crate::trails::Trails;
 use crate::{frames, loads, records, shelves, yards};
@@ -54,6 +54,7 @@ impl Generator {
         let mut state = match random.below(16) {
             0..=7 => self.runner.next(random),
             8 => parted_state(random),
+            9 => told_state(random),
             _ => any_state(random),
         };
         if random.once_in(limit) {
@@ -147,7 +148,7 @@ fn damage_record(random: &mut Random, record: &mut Record, times: usize) {
 /// Damages the shelf once in so many times.
 fn damage_shelf(random: &mut Random, state: &mut State, times: usize) {
     if random.once_in(times) {
-        let way = random.below(shelves::WAYS);
+        let way = if random.once_in(6) { shelves::MOVED_CAP } else { random.below(shelves::WAYS) };
         shelves::damage(random, &mut state.record, &mut state.shelf, way);
     }
 }
@@ -188,7 +189,7 @@ fn any_bytes(random: &mut Random, length: usize) -> Vec<u8> {
 /// Frame output, at times about the bound of check 3.
 fn any_output(random: &mut Random) -> Vec<u8> {
     let length = match random.below(16) {
-        0 => random.pick(&[0, 1, 802, 814, OUTPUT - 1]),
+        0 => random.pick(&[0, 1, 802, 814, 846, OUTPUT - 1]),
         1 => random.pick(&[OUTPUT + 1, OUTPUT + 1000]),
         _ => OUTPUT,
     };

@@ -1,8 +1,10 @@
 //! Cases for differential tests of the causal node and the trail: sound, damaged and at every bound, from a seed.
 #![forbid(unsafe_code)]
 
+pub mod bounds;
 pub mod case;
 pub mod counts;
+pub mod first_line;
 pub mod frames;
 pub mod generator;
 pub mod images;

@@ -36,6 +36,16 @@ pub fn any_cap(random: &mut Random, n: usize) -> usize {
     }
 }
 
+/// A cap for each of n nodes: one for all, the least beside the largest, or any.
+pub fn any_caps(random: &mut Random, n: usize) -> Vec<usize> {
+    let one = any_cap(random, n);
+    match random.below(4) {
+        0 => vec![one; n],
+        1 => (0..n).map(|_| random.pick(&[n, n * n])).collect(),
+        _ => (0..n).map(|_| any_cap(random, n)).collect(),
+    }
+}
+
 /// The places of M that may be non-zero at this record, rising by row then column.
 pub fn places(record: &Record) -> Vec<(usize, usize)> {
     let (me, n) = (record.me as usize, record.n as usize);
@@ -79,7 +89,7 @@ pub fn any_record(random: &mut Random) -> Record {
 }
 
 /// Lowers counts that meet check 5 by one.
-fn stay_below_limit(record: &mut Record) {
+pub fn stay_below_limit(record: &mut Record) {
     let row = Record::NODES * record.me as usize;
     let counts = record.m[row..row + Record::NODES].iter_mut().chain(&mut record.deliv);
     counts.for_each(|count| *count = (*count).min(TOP - 1));

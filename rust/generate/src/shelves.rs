@@ -59,7 +59,9 @@ pub fn twin(shelf: &[u8], place: usize, other_kind: bool) -> Option<Vec<u8>> {
 }
 
 /// How many ways there are to damage a shelf.
-pub const WAYS: usize = 14;
+pub const WAYS: usize = 16;
+/// The way that moves the cap of a held frame.
+pub const MOVED_CAP: usize = 14;
 
 /// Damages a sound shelf, or the number of held frames, in one of the ways, and says whether it has that way.
 pub fn damage(random: &mut Random, record: &mut Record, shelf: &mut [u8], way: usize) -> bool {
@@ -78,6 +80,8 @@ pub fn damage(random: &mut Random, record: &mut Record, shelf: &mut [u8], way: u
         11 => shift(shelf),
         12 => exchange(random, shelf, held),
         13 => age(random, shelf, held),
+        MOVED_CAP => move_cap(random, record.n, shelf, held),
+        15 => overfill(random, record, shelf),
         _ => false,
     }
 }
@@ -138,6 +142,13 @@ fn damage_bytes(random: &mut Random, shelf: &mut [u8], held: usize, repaired: bo
     false
 }
 
+/// A held frame with one entry more than its cap, for which four nodes have room.
+fn overfill(random: &mut Random, record: &Record, shelf: &mut [u8]) -> bool {
+    let place = random.below(record.held as usize);
+    put(shelf, place, &frames::overfull(random, record));
+    record.n > 3
+}
+
 /// A held frame that would meet one of 8 to 14, where the record has such a frame.
 fn damage_frame(random: &mut Random, record: &Record, shelf: &mut [u8]) -> bool {
     let place = random.below(record.held as usize);
@@ -177,6 +188,13 @@ fn exchange(random: &mut Random, shelf: &mut [u8], held: usize) -> bool {
 /// A held frame with an old plant's sum, which may by chance be the right one.
 fn age(random: &mut Random, shelf: &mut [u8], held: usize) -> bool {
     write_old_sum(any_held(random, shelf, held));
+    false
+}
+
+/// A held frame with its cap at or beside one of its bounds, which may leave it sound.
+fn move_cap(random: &mut Random, n: u8, shelf: &mut [u8], held: usize) -> bool {
+    let frame = any_held(random, shelf, held);
+    frames::move_cap(random, n, frame);
     false
 }
 

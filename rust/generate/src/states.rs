@@ -1,7 +1,7 @@
 //! States of a node: a sound record and shelf, with frames to offer, from running lists or of any values.
 
 use crate::frames;
-use crate::records::{any_cap, any_count, any_n, any_record, TOP};
+use crate::records::{any_caps, any_count, any_n, any_record, stay_below_limit, TOP};
 use crate::shelves::{any_shelf, frame_at};
 use crate::topics::allowed_class;
 use reference::draft::Draft;
@@ -31,11 +31,10 @@ pub struct Runner {
 }
 
 impl Runner {
-    /// A list of any n and cap, before its first step.
+    /// A list of any n, with any cap for each node, before its first step.
     pub fn start(random: &mut Random) -> Runner {
         let n = any_n(random);
-        let cap = any_cap(random, n);
-        let list = List::start(n, cap).expect("n and cap are in range");
+        let list = List::start(&any_caps(random, n)).expect("n and the caps are in range");
         Runner { list, left: random.within(20, 400), rest: random.pick(&[2, 3, 10]) }
     }
 
@@ -94,20 +93,55 @@ pub fn any_state(random: &mut Random) -> State {
     State { record, shelf, frame: None }
 }
 
-/// A state whose held frame carries as much as it can that the record does not know, so that its delivery trims most.
-pub fn parted_state(random: &mut Random) -> State {
+/// A number of nodes, 12 more often, a node, and another one.
+fn any_parties(random: &mut Random) -> (usize, usize, usize) {
     let n = if random.once_in(2) { 12 } else { random.within(3, 12) };
     let me = random.below(n);
-    let from = (me + 1 + random.below(n - 1)) % n;
+    (n, me, (me + 1 + random.below(n - 1)) % n)
+}
+
+/// A state whose held frame carries as much as it can that the record does not know, under one cap for both, so that its
+/// delivery trims most under one cap.
+pub fn parted_state(random: &mut Random) -> State {
+    let (n, me, from) = any_parties(random);
     let (mut known, mut carried) = parted_places(random, n, me, from);
     let most = known.len().max(carried.len()).max(n);
     let cap = if random.once_in(2) { most } else { random.within(n, most) };
     known.truncate(cap);
     carried.truncate(cap);
-    let mut record = Record { me: me as u8, n: n as u8, cap: cap as u8, ..Record::ZERO };
+    let record = Record { me: me as u8, n: n as u8, cap: cap as u8, ..Record::ZERO };
+    brought_state(random, record, &known, Draft { from: from as u8, cap: cap as u8, ..user_to(me, n) }, &carried)
+}
+
+/// A state whose held frame carries all that can stand at its sender, or some of it, in columns of others, while the record
+/// knows the sender's column and some of its own row; the caps differ, and the delivery trims most of all where the
+/// record's is 2 × n − 5 and much is carried.
+pub fn told_state(random: &mut Random) -> State {
+    let (n, me, from) = any_parties(random);
+    let cap = if random.once_in(2) { 2 * n - 5 } else { random.within(n, 2 * n) };
+    let cap = cap.clamp(n, n * n);
+    let others = || (0..n).filter(|x| *x != me && *x != from);
+    let column = (0..n).filter(|row| *row != from).map(|row| (row, from));
+    let mut known: Vec<Place> = column.chain(others().map(|column| (me, column))).collect();
+    known.truncate(cap);
+    let rows = (0..n).filter(|row| *row != me).flat_map(|row| others().map(move |column| (row, column)));
+    let mut carried: Vec<Place> = rows.filter(|(row, column)| row != column).collect();
+    let senders = if random.once_in(2) { n * n } else { random.within(n, n * n) };
+    carried.truncate(senders);
+    let record = Record { me: me as u8, n: n as u8, cap: cap as u8, ..Record::ZERO };
+    brought_state(random, record, &known, Draft { from: from as u8, cap: senders as u8, ..user_to(me, n) }, &carried)
+}
+
+/// The parts of a user frame without entries and body to a node of n.
+fn user_to(me: usize, n: usize) -> Draft {
+    Draft { kind: USER, from: 0, to: me as u8, n: n as u8, cap: 0, zero: 0, entries: Vec::new(), body: Vec::new() }
+}
+
+/// The state of a record with any counts at the known places, and with the frame held that has any at the carried ones.
+fn brought_state(random: &mut Random, mut record: Record, known: &[Place], draft: Draft, carried: &[Place]) -> State {
     known.iter().for_each(|(row, column)| *record.entry_mut(*row, *column) = any_count(random));
-    let mut draft = Draft { from: from as u8, ..frames::sound(random, &record, true) };
-    (draft.kind, draft.entries) = (USER, Vec::new());
+    stay_below_limit(&mut record);
+    let mut draft = Draft { body: frames::any_body(random), ..draft };
     carried.iter().for_each(|(row, column)| draft.set(*row, *column, any_count(random)));
     let frame = draft.bytes();
     let mut shelf = vec![0; shelf::LENGTH];

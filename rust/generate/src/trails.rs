@@ -42,9 +42,9 @@ impl Trails {
 
     /// A write of a frame, sound or not, with any number in use and any room.
     pub fn write(&mut self) -> Case {
-        let frame = match self.random.below(8) {
+        let frame = match self.random.below(9) {
             0..=4 => self.any_sound(2),
-            5 | 6 => bad(&mut self.random),
+            5..=7 => bad(&mut self.random),
             _ => any_bytes(&mut self.random),
         };
         let random = &mut self.random;
@@ -77,14 +77,14 @@ impl Trails {
     pub fn file(&mut self) -> Vec<u8> {
         let frames = self.frames();
         let random = &mut self.random;
-        match random.below(26) {
-            0..=12 => frames.concat(),
-            13 => any_bytes(random),
-            14..=18 => with_bad_frame(random, frames),
-            19 => old(frames),
+        match random.below(30) {
+            0..=14 => frames.concat(),
+            15 => any_bytes(random),
+            16..=22 => with_bad_frame(random, frames),
+            23 => old(frames),
             way => {
                 let mut file = frames.concat();
-                damage(random, &mut file, way - 20);
+                damage(random, &mut file, way - 24);
                 file
             }
         }
@@ -140,16 +140,17 @@ fn any_draft(random: &mut Random) -> Draft {
 /// Bytes of a frame that mostly is not sound on its own.
 fn bad(random: &mut Random) -> Vec<u8> {
     let record = any_record(random);
-    match random.below(9) {
-        0 | 1 => out_of_range(random),
-        2 => stretched(random),
-        3 => {
+    match random.below(13) {
+        0..=3 => out_of_range(random),
+        4 => stretched(random),
+        5 | 6 => frames::overfull(random, &record),
+        7 => {
             let mut bytes = frames::damaged(random, &record, 11);
             frames::damage_byte(random, &mut bytes, true);
             bytes
         }
         _ => {
-            let check = random.within(8, 11) as u8;
+            let check = random.pick(&[8, 9, 10, 10, 11]);
             frames::damaged(random, &record, check)
         }
     }
@@ -168,11 +169,11 @@ fn stretched(random: &mut Random) -> Vec<u8> {
 fn out_of_range(random: &mut Random) -> Vec<u8> {
     let mut draft = Draft { entries: Vec::new(), ..any_draft(random) };
     let n = draft.n;
-    (draft.n, draft.cap) = match random.below(5) {
+    (draft.n, draft.cap) = match random.below(7) {
         0 => (random.pick(&[0, 1]), draft.cap),
         1 => (13, random.pick(&[13, 144, 169])),
         2 => (random.pick(&[14, 16, 128, 255]), draft.cap.max(16)),
-        3 => (n, random.pick(&[n - 1, 0, 1])),
+        3 | 4 => (n, random.pick(&[n - 1, 0, 1])),
         _ => (n, random.pick(&[n * n + 1, 255])),
     };
     draft.bytes()
@@ -283,13 +284,24 @@ pub fn fault(left: &[u8]) -> Option<&'static str> {
     frame_fault(&left[length - 4 - count..])
 }
 
-/// Why these bytes are no frame that is sound on its own; nothing where they are one.
+/// Why these bytes are no frame that is sound on its own; nothing where they are one. Of 11 an e above the frame's own cap
+/// is told apart.
 pub fn frame_fault(bytes: &[u8]) -> Option<&'static str> {
     match Frame::check_alone(bytes).err()? {
-        1 => Some("n or cap is out of range"),
+        1 => Some(range_fault(bytes[5], bytes[6])),
         8 => Some("the frame meets 8"),
         9 => Some("the frame meets 9"),
         10 => Some("the frame meets 10"),
+        _ if bytes[3] > bytes[6] => Some("e is above the frame's cap"),
         _ => Some("the frame meets 11"),
+    }
+}
+
+/// Which of n and cap is out of range.
+fn range_fault(n: u8, cap: u8) -> &'static str {
+    match n {
+        2..=12 if cap < n => "the cap is below n",
+        2..=12 => "the cap is above n x n",
+        _ => "n is out of range",
     }
 }

@@ -1,6 +1,6 @@
 //! Inputs of the yard: valid ones, and ones that are damaged.
 
-use crate::records::any_cap;
+use crate::records::any_caps;
 use crate::texts::damage_byte;
 use reference::list::List;
 use reference::plant::CLASS;
@@ -13,12 +13,12 @@ const BYTES: &[u8] = b"0123456789SADNRTX \n\r\t-+.\0\xFF";
 /// An input of any kind.
 pub fn any_input(random: &mut Random) -> Vec<u8> {
     let mut input = valid(random);
-    match random.below(10) {
+    match random.below(11) {
         0 => damage_byte(random, &mut input, BYTES),
         1 => damage_line(random, &mut input),
-        2 => damage_first(random, &mut input),
-        3 => input.truncate(random.below(input.len() + 1)),
-        4 => grow(random, &mut input),
+        2 | 3 => damage_first(random, &mut input),
+        4 => input.truncate(random.below(input.len() + 1)),
+        5 => grow(random, &mut input),
         _ => (),
     }
     input
@@ -27,8 +27,8 @@ pub fn any_input(random: &mut Random) -> Vec<u8> {
 /// A valid input, whose lines may be refused but are of the right form.
 pub fn valid(random: &mut Random) -> Vec<u8> {
     let n = random.within(2, 4);
-    let cap = if random.once_in(2) { n } else { any_cap(random, n) };
-    let mut writer = Writer::start(n, cap);
+    let caps = if random.once_in(3) { vec![n; n] } else { any_caps(random, n) };
+    let mut writer = Writer::start(random, &caps);
     let lines = random.pick(&[0, 5, 40, 150, 150, 500]);
     let style = random.below(3);
     for _ in 0..random.within(0, lines) {
@@ -49,8 +49,11 @@ struct Writer {
 
 impl Writer {
     /// An input of its first line.
-    fn start(n: usize, cap: usize) -> Writer {
-        Writer { input: format!("{n} {cap}\n"), list: List::start(n, cap).expect("n and cap are in range") }
+    fn start(random: &mut Random, caps: &[usize]) -> Writer {
+        let numbers = [&[caps.len()], caps].concat();
+        let fields: Vec<String> = numbers.iter().map(|number| padded(random, *number)).collect();
+        let list = List::start(caps).expect("n and the caps are in range");
+        Writer { input: fields.join(" ") + "\n", list }
     }
 
     /// Adds a line if there is room for it, and says whether there is room for more issues.
@@ -173,7 +176,7 @@ fn damage_line(random: &mut Random, input: &mut Vec<u8>) {
         b"D 0 ",
         b"D -1",
         b"T 1",
-        b"3 3",
+        b"3 3 3 3",
         b"D 1\0",
     ];
     let ends: Vec<usize> = (0..input.len()).filter(|index| input[*index] == b'\n').collect();
@@ -184,12 +187,52 @@ fn damage_line(random: &mut Random, input: &mut Vec<u8>) {
 
 /// Puts another first line in the place of the right one.
 fn damage_first(random: &mut Random, input: &mut Vec<u8>) {
-    let lines: [&[u8]; 22] = [
-        b"1 1", b"5 5", b"2 1", b"2 5", b"3 2", b"3 10", b"4 3", b"4 17", b"12 12", b"258 3", b"3 259", b"3", b"3 3 3",
-        b"3  3", b" 3 3", b"3 3 ", b"3 3\r", b"0003 3", b"003 009", b"x", b"", b"S 0 1",
+    let lines: [&[u8]; 18] = [
+        b"1 1",
+        b"0",
+        b"5 5 5 5 5 5",
+        b"258 3 3",
+        b"3",
+        b"3  3 3 3",
+        b" 3 3 3 3",
+        b"3 3 3 3 ",
+        b"3 3 3 ",
+        b"3 3  3",
+        b"3 3 3 3\r",
+        b"3\t3 3 3",
+        b"003 009 003 03",
+        b"3 x 3 3",
+        b"3 3 3 -3",
+        b"x",
+        b"",
+        b"S 0 1",
     ];
+    let line = if random.once_in(4) { random.pick(&lines).to_vec() } else { other_caps(random).into_bytes() };
     let end = input.iter().position(|byte| *byte == b'\n').unwrap_or(0);
-    input.splice(..end, random.pick(&lines).iter().copied());
+    input.splice(..end, line);
+}
+
+/// A first line with fewer or more caps than n, with a cap out of range, or with a field of four digits.
+fn other_caps(random: &mut Random) -> String {
+    let n = random.within(2, 4);
+    let mut numbers = [vec![n], any_caps(random, n)].concat();
+    let index = random.within(1, n);
+    let way = random.below(8);
+    match way {
+        0 => numbers.truncate(random.within(1, n)),
+        1 => numbers.extend(vec![n; random.pick(&[1, 1, 2, 9])]),
+        2 => numbers.truncate(2),
+        3 | 4 => numbers[index] = random.pick(&[n - 1, n - 1, 1, 0]),
+        5 | 6 => numbers[index] = random.pick(&[n * n + 1, n * n + 1, 17, 255, 256 + n, 999]),
+        _ => (),
+    }
+    let mut fields: Vec<String> = numbers.iter().map(usize::to_string).collect();
+    if way == 7 {
+        let position = if random.once_in(3) { n } else { random.below(n + 1) };
+        let field = &mut fields[position];
+        *field = format!("{field:0>4}");
+    }
+    fields.join(" ")
 }
 
 /// Grows the input to about its longest length.

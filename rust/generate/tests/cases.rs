@@ -1,10 +1,12 @@
 //! What holds of the generated cases, and how often each refusal is met.
 
-use generate::counts::Counts;
+use generate::bounds::{met, Bound};
+use generate::counts::{Counts, Place};
+use generate::first_line::FirstLine;
 use generate::images::{self, Part};
 use generate::neighbours::{exchange, exchange_anywhere, exchanged, places};
 use generate::trails::{fault, Trails};
-use generate::{frames, loads, records, shelves, states, Call, Case, Generator, Made, Outcome};
+use generate::{frames, loads, records, shelves, states, Buffers, Call, Case, Generator, Made, Outcome};
 use reference::frame::Frame;
 use reference::random::Random;
 use reference::recount::Fates;
@@ -57,7 +59,11 @@ fn every_refusal_of_every_call_is_met_often() {
             assert!(count == 0 || count >= 200, "{call} {number}: {count}");
         }
     }
-    assert_eq!(["send", "offer", "deliver"].map(|call| counts.largest(call)), [814, 802, 504]);
+    assert_eq!(["send", "offer", "deliver"].map(|call| counts.largest(call)), [814, 802, 846]);
+    for (call, place, least) in [("offer", Place::Offered, 20), ("offer", Place::Held, 5), ("deliver", Place::Held, 5)]
+    {
+        assert_eq!(counts.missed(call, place, least), [], "{call}, {place:?}");
+    }
 }
 
 #[test]
@@ -76,8 +82,8 @@ fn states_are_sound() {
     let mut random = Random::new(11);
     let mut runner = states::Runner::start(&mut random);
     for _ in 0..2_000 {
-        let parted = states::parted_state(&mut random);
-        for mut state in [runner.next(&mut random), states::any_state(&mut random), parted] {
+        let [parted, told] = [states::parted_state, states::told_state].map(|state| state(&mut random));
+        for mut state in [runner.next(&mut random), states::any_state(&mut random), parted, told] {
             assert!(state.record.keeps_rules() && !state.record.is_at_limit());
             assert_eq!(shelf::check(&state.shelf, &state.record), Ok(()));
             states::reach_limit(&mut random, &mut state);
@@ -249,6 +255,99 @@ fn trails_are_whole_or_damaged_in_every_way() {
         *met.entry(ends).or_default() += 1;
     }
     println!("{met:#?}");
-    assert_eq!(met.len(), 8);
+    assert_eq!(met.len(), 11);
     assert!(met.iter().all(|(_, count)| *count > 50) && met["the start"] > 2_500, "{met:?}");
+}
+
+#[test]
+fn where_a_cap_and_its_entries_stand() {
+    let frame = |cap, e| [1, 0, 1, e, 0, 4, cap, 0];
+    let at = |own: Option<usize>, cap, e| met(4, own, &frame(cap, e));
+    assert_eq!(
+        [0, 3, 17, 255].map(|cap| at(Some(9), cap, 4)),
+        [vec![Bound::Zero], vec![Bound::BelowN], vec![Bound::AboveSquare], vec![Bound::Byte]]
+    );
+    assert_eq!(
+        [3, 4, 5, 6].map(|e| at(None, 4, e)),
+        [vec![Bound::AtN], vec![Bound::AtN, Bound::Full], vec![Bound::AtN, Bound::Overfull], vec![Bound::AtN]]
+    );
+    assert_eq!(at(Some(9), 8, 8), [Bound::Full, Bound::Smaller]);
+    assert_eq!(
+        [9, 10].map(|e| at(Some(9), 16, e)),
+        [vec![Bound::AtSquare, Bound::Larger], vec![Bound::AtSquare, Bound::Larger, Bound::Beyond]]
+    );
+    assert_eq!([at(Some(4), 5, 6), at(Some(9), 9, 5)], [vec![Bound::Overfull, Bound::Larger], vec![]]);
+    assert_eq!(met(4, None, &frame(0, 0)[..6]), []);
+}
+
+#[test]
+fn caps_of_running_lists_and_of_held_frames_differ() {
+    let mut random = Random::new(24);
+    let mut runner = states::Runner::start(&mut random);
+    let (mut smaller, mut larger) = (0, 0);
+    for _ in 0..2_000 {
+        let state = runner.next(&mut random);
+        let Some(frame) = state.frame else { continue };
+        smaller += usize::from(frame[6] < state.record.cap);
+        larger += usize::from(frame[6] > state.record.cap);
+    }
+    assert!(smaller > 300 && larger > 300, "{smaller} {larger}");
+}
+
+#[test]
+fn written_frames_meet_every_bound_of_their_caps() {
+    let (mut trails, mut counts) = (Trails::new(27), Counts::default());
+    for _ in 0..5_000 {
+        let case = trails.write();
+        counts.add(&case, &case.run());
+    }
+    assert_eq!(counts.missed("write", Place::Written, 20), []);
+}
+
+#[test]
+fn told_states_issue_the_most() {
+    let mut random = Random::new(25);
+    let mut counts = Counts::default();
+    for _ in 0..300 {
+        let states::State { record, shelf, .. } = states::told_state(&mut random);
+        let buffers = Buffers { shelf, out: vec![0; 2048], body_out: vec![0; 64], ..Buffers::default() };
+        let case = Case::written(&record, Call::Deliver, buffers);
+        counts.add(&case, &case.run());
+    }
+    assert_eq!(counts.largest("deliver"), 846);
+}
+
+#[test]
+fn every_kind_of_first_line_is_met() {
+    let mut met = BTreeMap::<_, usize>::new();
+    for case in Generator::cases(26, 12_000, Generator::yard) {
+        let Call::Yard { input } = &case.call else { panic!("{:?}", case.call) };
+        let line = FirstLine::of(input);
+        let taken = reference::yard(input) != b"R 17\n";
+        assert_eq!(taken, line.is_taken() && input.len() <= 4096, "{line:?}");
+        *met.entry(line).or_default() += 1;
+    }
+    println!("{met:?}");
+    let seldom: Vec<_> =
+        FirstLine::all().into_iter().filter(|line| met.get(line).is_none_or(|count| *count < 10)).collect();
+    assert_eq!(seldom, []);
+}
+
+#[test]
+fn first_lines_by_hand() {
+    let lines = ["3 3 3 3", "3 9 3 4", "3 4 3 5", "3 3", "3 3 3", "3 3 3 3 3", "3 3 2 3", "3 3 3 10", "0003 3 3 3"];
+    let expected = [
+        FirstLine::Alike,
+        FirstLine::Apart,
+        FirstLine::Differ,
+        FirstLine::Old,
+        FirstLine::Missing,
+        FirstLine::TooMany,
+        FirstLine::Below(1),
+        FirstLine::Above(2),
+        FirstLine::Long(0),
+    ];
+    assert_eq!(lines.map(|line| FirstLine::of(format!("{line}\nS 0 1\n").as_bytes())), expected);
+    let others = ["", "3 3 3 3", "\n", "3 3 3 x\n", "3  3 3 3\n", "5 5 5 5 5 5\n", "1 1\n"];
+    assert!(others.iter().all(|input| FirstLine::of(input.as_bytes()) == FirstLine::Other));
 }

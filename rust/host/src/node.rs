@@ -45,7 +45,8 @@ pub struct Node {
 }
 
 impl Node {
-    /// Sets a node up, once in a plant's time: me of n nodes, with this cap. One n and one cap are for all nodes.
+    /// Sets a node up, once in a plant's time: me of n nodes, with this cap. One n is for all nodes; caps may differ, and
+    /// each node's frames carry its own.
     pub fn set_up(me: usize, n: usize, cap: usize) -> Result<Node, Refusal> {
         let mut bytes = vec![0; STORED];
         Refusal::unless_zero(lent::set_up(&mut bytes[..IMAGE], me, n, cap))?;

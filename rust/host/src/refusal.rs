@@ -133,7 +133,7 @@ impl Refusal {
             Refusal::LongBody => "shorten it, or send it in parts",
             Refusal::DamagedFrame => "drop it, a good copy may be offered later",
             Refusal::UnknownKind | Refusal::BadParts => "drop it, no node issued it so",
-            Refusal::OtherPlant => "drop it, and see that all nodes were set up with one n and one cap",
+            Refusal::OtherPlant => "drop it, and see that all nodes were set up with one n",
             Refusal::OtherNode => "bring it to the node that its byte 2 names",
             Refusal::NotIssued => {
                 "drop it; if it comes again, this node is not the latest: set the whole plant up anew"

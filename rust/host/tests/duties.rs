@@ -177,10 +177,10 @@ fn a_message_delivered_and_then_forgotten_is_delivered_again() {
 }
 
 #[test]
-fn nodes_with_another_n_or_cap_refuse_each_others_frames_with_10() {
+fn nodes_with_another_n_refuse_each_others_frames_with_10() {
     let frame = send(&mut Node::set_up(0, 3, 3).unwrap(), 1, &[]).remove(0);
-    for (n, cap) in [(4, 4), (3, 4)] {
-        assert_eq!(refused(&mut Node::set_up(1, n, cap).unwrap(), &frame), Refusal::OtherPlant);
+    for n in [2, 4, 12] {
+        assert_eq!(refused(&mut Node::set_up(1, n, n).unwrap(), &frame), Refusal::OtherPlant);
     }
 }
 

@@ -2,7 +2,7 @@
 
 mod common;
 
-use common::{before_an_extra, cut, delivered, plant, sealed, send, spelled};
+use common::{before_an_extra, cut, delivered, plant, plant_with, sealed, send, spelled};
 use host::sizes::{BODY, FRAME, HELD, IMAGE, NODES, QUEUE, STORED};
 use host::{Class, Delivered, Frame, Kind, Node, Output, Refusal};
 
@@ -86,7 +86,8 @@ fn offers_are_refused_with_their_numbers() {
         (vec![1; FRAME + 1], Refusal::DamagedFrame),
         (spelled(3, 0, 1, 3, 3, &[], b"one"), Refusal::UnknownKind),
         (sealed(with_byte_7), Refusal::UnknownKind),
-        (spelled(1, 0, 1, 3, 4, &[], b"one"), Refusal::OtherPlant),
+        (spelled(1, 0, 1, 3, 2, &[], b"one"), Refusal::OtherPlant),
+        (spelled(1, 0, 1, 3, 10, &[], b"one"), Refusal::OtherPlant),
         (spelled(2, 0, 1, 3, 3, &[], b"one"), Refusal::BadParts),
         (spelled(1, 0, 1, 3, 3, &entry(0, 0, 1), b"one"), Refusal::BadParts),
         (spelled(1, 0, 2, 3, 3, &[], b"one"), Refusal::OtherNode),
@@ -156,6 +157,30 @@ fn what_was_not_stored_so_is_not_loaded() {
         let refusal = if index < IMAGE { Refusal::Image } else { Refusal::WrongQueue };
         assert_eq!(refused(Node::load(damaged)), refusal, "byte {index}");
     }
+}
+
+#[test]
+fn frames_of_any_cap_in_range_are_taken_and_each_node_trims_by_its_own() {
+    let mut nodes = plant_with(&[9, 3, 4]);
+    // A send and, if it is brought, its delivery; gives its frame and how many extra frames the delivery issued.
+    let mut tell = |from: usize, to: usize, bring: bool| {
+        let sent = send(&mut nodes[from], to, &[]);
+        assert_eq!((sent.len(), usize::from(sent[0][6])), (1, nodes[from].cap()));
+        let mut output = Output::new();
+        let mut deliver = |frame: &[u8]| {
+            nodes[to].offer(frame).expect("a cap in range is no reason to refuse");
+            nodes[to].deliver(&mut output).unwrap().frame().unwrap().extras
+        };
+        (sent[0].clone(), if bring { deliver(&sent[0]) } else { 0 })
+    };
+    for (from, to, bring) in [(1, 2, false), (0, 1, true), (0, 2, false), (1, 0, true), (2, 0, true), (2, 1, true)] {
+        assert_eq!(tell(from, to, bring).1, 0);
+    }
+    assert_eq!(tell(2, 0, true).1, 0);
+    // Node 1 keeps three entries and is brought four, of which one is new to it.
+    let (frame, extras) = tell(0, 1, true);
+    assert_eq!((frame[3], frame[6], extras), (4, 9, 1));
+    assert_eq!(nodes.iter().map(Node::cap).collect::<Vec<_>>(), [9, 3, 4]);
 }
 
 #[test]

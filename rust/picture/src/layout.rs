@@ -45,7 +45,7 @@ impl Layout {
         let left = EDGE + names_width(names) + GAP;
         let column = column_width(run, WIDTH - left - EDGE);
         let width = WIDTH.max(left + column * run.lines.len() as i32 + EDGE);
-        let (lines, bottom) = node_lines(run.n, story);
+        let (lines, bottom) = node_lines(run.n(), story);
         let nodeless = story.marks.iter().any(|mark| mark.node.is_none());
         let floor = bottom + ROW + if nodeless { ROW / 2 } else { 0 };
         let number = if nodeless { floor + GAP + ROW / 2 } else { floor };

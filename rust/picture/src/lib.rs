@@ -28,7 +28,7 @@ impl Display for Fault {
     fn fmt(&self, f: &mut Formatter<'_>) -> fmt::Result {
         match self {
             Fault::Input => {
-                let (first, most) = ("its first line is `n cap` (n 2 to 4, cap n to n × n)", yard::INPUT);
+                let (first, most) = ("its first line is n (2 to 4) and a cap for each node (n to n × n)", yard::INPUT);
                 write!(f, "this is no yard input: {first}, and it has at most {most} bytes")
             }
             Fault::Names { given, nodes } => write!(f, "{given} names are given for {nodes} nodes"),
@@ -39,8 +39,8 @@ impl Display for Fault {
 /// Draws the run of a yard input; names are none, or one for each node.
 pub fn picture(input: &[u8], names: &[String]) -> Result<String, Fault> {
     let run = yard::run(input).ok_or(Fault::Input)?;
-    if !names.is_empty() && names.len() != run.n {
-        return Err(Fault::Names { given: names.len(), nodes: run.n });
+    if !names.is_empty() && names.len() != run.n() {
+        return Err(Fault::Names { given: names.len(), nodes: run.n() });
     }
     let story = Story::of(&run);
     let layout = Layout::of(&run, &story, names);

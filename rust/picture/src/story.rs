@@ -62,7 +62,7 @@ impl Story {
         let mut story = Story::default();
         for (step, line) in run.lines.iter().enumerate() {
             for (place, event) in line.events.iter().enumerate() {
-                story.add(run.n, step, line, place, *event);
+                story.add(run.n(), step, line, place, *event);
             }
         }
         story

@@ -10,7 +10,16 @@ pub fn summary(run: &Run) -> String {
     let Tally { users, extras, delivered, delays, .. } = run.tally;
     let frames = format!("{}, {}", count(users, "user frame"), count(extras, "extra frame"));
     let end = format!("{delivered} delivered, {delays} delayed");
-    format!("{} nodes, cap {}, {}: {frames}, {end}", run.n, run.cap, count(run.lines.len(), "step"))
+    format!("{} nodes, {}, {}: {frames}, {end}", run.n(), caps(&run.caps), count(run.lines.len(), "step"))
+}
+
+/// The one cap of all nodes, or the cap of each.
+fn caps(caps: &[usize]) -> String {
+    if caps.iter().all(|cap| *cap == caps[0]) {
+        return format!("cap {}", caps[0]);
+    }
+    let each: Vec<String> = caps.iter().map(usize::to_string).collect();
+    format!("caps {}", each.join(" "))
 }
 
 /// A frame and what became of it.

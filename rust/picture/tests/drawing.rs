@@ -7,9 +7,9 @@ use picture::Fault;
 use reference::random::Random;
 
 /// Document 01's example.
-const EXAMPLE: &str = "3 3\nS 0 2\nS 0 1\nA 2\nD 1\nS 1 2\nA 3\nD 2\nA 1\nD 2\nD 2\n";
+const EXAMPLE: &str = "3 3 3 3\nS 0 2\nS 0 1\nA 2\nD 1\nS 1 2\nA 3\nD 2\nA 1\nD 2\nD 2\n";
 /// Document 01's run with an extra frame, which is then brought to node 1.
-const EXTRA: &str = "3 3\nS 0 1\nS 0 2\nS 1 2\nS 1 0\nS 2 1\nS 2 0\nA 4\nD 0\nA 6\nD 0\nA 7\n";
+const EXTRA: &str = "3 3 3 3\nS 0 1\nS 0 2\nS 1 2\nS 1 0\nS 2 1\nS 2 0\nA 4\nD 0\nA 6\nD 0\nA 7\n";
 
 /// The one element of a class in a group.
 fn only<'a>(group: &'a [Element], class: &str) -> &'a Element {
@@ -73,7 +73,7 @@ fn a_bar_lasts_from_the_offer_to_the_delivery() {
 
 #[test]
 fn a_frame_that_is_held_at_the_end_has_an_open_bar_to_the_right_end() {
-    let svg = draw("2 2\nS 0 1\nA 1\n");
+    let svg = draw("2 2 2\nS 0 1\nA 1\n");
     let (x, y) = (columns(&svg), heights(&svg));
     let right = diagram(&svg).iter().find(|element| element.is("node")).unwrap().number("x2");
     let expected = format!("M{right} {} H{} v14 H{right} ", y[1] + 15, x[1]);
@@ -84,7 +84,7 @@ fn a_frame_that_is_held_at_the_end_has_an_open_bar_to_the_right_end() {
 
 #[test]
 fn a_frame_that_is_never_held_ends_on_its_way() {
-    let svg = draw("3 3\nS 0 2\nS 2 0\n");
+    let svg = draw("3 3 3 3\nS 0 2\nS 2 0\n");
     let y = heights(&svg);
     assert!(diagram(&svg).iter().all(|element| !element.is("bar")));
     for (index, from, to) in [(0, 0, 2), (1, 2, 0)] {
@@ -114,7 +114,7 @@ fn an_extra_frame_is_told_from_user_frames() {
 
 #[test]
 fn frames_of_one_step_stand_side_by_side_and_their_labels_above_one_another() {
-    let sends = "4 4\nS 1 2\nS 1 3\nS 1 0\nS 3 2\nS 3 0\nS 2 3\nS 2 0\n";
+    let sends = "4 4 4 4 4\nS 1 2\nS 1 3\nS 1 0\nS 3 2\nS 3 0\nS 2 3\nS 2 0\n";
     let svg = draw(&format!("{sends}A 3\nD 0\nA 5\nD 0\nA 7\nD 0\nS 0 1\n"));
     assert_eq!(
         words(&svg, "extra"),
@@ -141,7 +141,7 @@ fn a_wait_is_marked_at_its_node_and_step() {
 #[test]
 fn a_delayed_frame_is_counted_once_and_each_wait_is_marked() {
     // Issue 2 waits for issue 1: two waits pass over it, and the third is on an empty shelf.
-    let svg = draw("2 2\nS 0 1\nS 0 1\nA 2\nD 1\nD 1\nD 0\n");
+    let svg = draw("2 2 2\nS 0 1\nS 0 1\nA 2\nD 1\nD 1\nD 0\n");
     assert_eq!(words(&svg, "wait").len(), 3);
     assert!(svg.contains("2 nodes, cap 2, 6 steps: 2 user frames, 0 extra frames, 0 delivered, 1 delayed</title>"));
 }
@@ -164,25 +164,25 @@ fn assert_refusal(input: &str, number: u8, step: usize, node: Option<usize>) {
 
 #[test]
 fn a_refusal_is_marked_with_its_number_at_its_node_and_step() {
-    assert_refusal("3 3\nS 1 1\n", 6, 1, Some(1));
-    assert_refusal("3 3\nS 2 9\n", 6, 1, Some(2));
-    assert_refusal("3 3\nS 0 2\nA 1\nD 2\nA 1\n", 14, 4, Some(2));
-    assert_refusal("3 3\nS 0 2\nA 1\nA 1\n", 15, 3, Some(2));
+    assert_refusal("3 3 3 3\nS 1 1\n", 6, 1, Some(1));
+    assert_refusal("3 3 3 3\nS 2 9\n", 6, 1, Some(2));
+    assert_refusal("3 3 3 3\nS 0 2\nA 1\nD 2\nA 1\n", 14, 4, Some(2));
+    assert_refusal("3 3 3 3\nS 0 2\nA 1\nA 1\n", 15, 3, Some(2));
     let offers: String = (2..=16).map(|m| format!("A {m}\n")).collect();
-    assert_refusal(&format!("3 3\n{}{offers}A 18\n", "S 0 1\n".repeat(18)), 16, 34, Some(1));
-    assert_refusal(&format!("2 2\n{}D 1\n", "S 0 1\n".repeat(63)), 17, 64, Some(1));
+    assert_refusal(&format!("3 3 3 3\n{}{offers}A 18\n", "S 0 1\n".repeat(18)), 16, 34, Some(1));
+    assert_refusal(&format!("2 2 2\n{}D 1\n", "S 0 1\n".repeat(63)), 17, 64, Some(1));
 }
 
 #[test]
 fn a_refused_line_that_belongs_to_no_node_is_marked_below_all() {
     for line in ["S 3 0\n", "D 3\n", "A 0\n", "A 2\n", "hello\n", "\n", "D 1"] {
-        assert_refusal(&format!("3 3\nS 0 1\n{line}"), 17, 2, None);
+        assert_refusal(&format!("3 3 3 3\nS 0 1\n{line}"), 17, 2, None);
     }
 }
 
 #[test]
 fn steps_and_input_lines_stand_below() {
-    let svg = draw("2 2\nS 0 1\n<&>\nS 000 001\nA very long line\n\u{e9}\u{7}\n");
+    let svg = draw("2 2 2\nS 0 1\n<&>\nS 000 001\nA very long line\n\u{e9}\u{7}\n");
     let all = diagram(&svg);
     let middle = |element: &&Element| element.get("text-anchor") == "middle" && !element.is("halo");
     let texts: Vec<&str> = all.iter().filter(middle).map(|element| element.content.as_str()).collect();
@@ -195,7 +195,7 @@ fn steps_and_input_lines_stand_below() {
 #[test]
 fn names_are_escaped_and_cut() {
     let list = names(&["a<b>&\"c", "x\u{1}\u{FFFF}y\nz", "</text><script>"]);
-    let svg = picture::picture(b"3 3\nS 0 2\n", &list).unwrap();
+    let svg = picture::picture(b"3 3 3 3\nS 0 2\n", &list).unwrap();
     let shown: Vec<String> =
         elements(&svg).into_iter().filter(|element| element.is("name")).map(|e| e.content).collect();
     assert_eq!(shown, ["a&lt;b&gt;&amp;&quot;c", "x\u{FFFD}\u{FFFD}y\u{FFFD}z", "&lt;/text&gt;&lt;scrip…"]);
@@ -207,23 +207,24 @@ fn names_are_escaped_and_cut() {
 fn names_are_none_or_one_for_each_node() {
     for given in [1, 2, 4, 5] {
         let list = vec!["name".to_string(); given];
-        assert_eq!(picture::picture(b"3 3\n", &list), Err(Fault::Names { given, nodes: 3 }));
+        assert_eq!(picture::picture(b"3 3 3 3\n", &list), Err(Fault::Names { given, nodes: 3 }));
     }
-    assert!(picture::picture(b"3 3\n", &names(&["a", "b", "c"])).is_ok());
+    assert!(picture::picture(b"3 3 3 3\n", &names(&["a", "b", "c"])).is_ok());
 }
 
 #[test]
 fn what_is_no_yard_input_has_no_picture() {
-    for input in ["", "3 3", "3\n", "1 1\n", "5 5\n", "3 10\n", "3 3\r\n"] {
+    for input in ["", "3 3 3 3", "3\n", "3 3\n", "1 1\n", "5 5 5 5 5 5\n", "3 9 9 10\n", "3 3 3 3 3\n", "3 3 3 3\r\n"] {
         assert_eq!(picture::picture(input.as_bytes(), &[]), Err(Fault::Input), "{input:?}");
     }
 }
 
 #[test]
 fn an_empty_run_has_its_nodes_and_a_legend() {
-    let svg = draw("4 9\n");
+    let svg = draw("4 9 9 9 9\n");
     assert_eq!(heights(&svg).len(), 4);
     assert!(svg.contains(">4 nodes, cap 9, 0 steps: 0 user frames, 0 extra frames, 0 delivered, 0 delayed</text>"));
+    assert!(draw("4 4 9 16 5\n").contains(">4 nodes, caps 4 9 16 5, 0 steps: 0 user frames, "));
     let drawn = |element: &Element| ["flight", "bar", "cross", "halo", "grid"].iter().any(|class| element.is(class));
     assert!(!diagram(&svg).iter().any(drawn));
     for meaning in [
@@ -247,7 +248,7 @@ fn an_empty_run_has_its_nodes_and_a_legend() {
 #[test]
 fn a_run_with_all_issues() {
     // Fewer than n of 64 issues left refuses a send, so that 63 is the most.
-    let svg = draw(&format!("2 2\n{}", "S 0 1\nA 1\n".repeat(64)));
+    let svg = draw(&format!("2 2 2\n{}", "S 0 1\nA 1\n".repeat(64)));
     assert_eq!(words(&svg, "user").len(), 63);
     assert!(words(&svg, "user")[62].starts_with("issue 63, user frame, node 0 to node 1, 1 entry: issued at step 125"));
     assert_eq!(words(&svg, "refused").last().unwrap(), "step 128 at node 1: refused, 15");
@@ -258,7 +259,7 @@ fn a_run_with_all_issues() {
 #[test]
 fn bars_of_sixteen_held_frames_do_not_cover_one_another() {
     let offers: String = (2..=16).map(|m| format!("A {m}\n")).collect();
-    let svg = draw(&format!("2 2\n{}{offers}A 1\n", "S 0 1\n".repeat(16)));
+    let svg = draw(&format!("2 2 2\n{}{offers}A 1\n", "S 0 1\n".repeat(16)));
     let tops = |element: &Element| element.get("d").split(' ').nth(1).and_then(|top| top.parse::<i32>().ok()).unwrap();
     let mut found: Vec<i32> = diagram(&svg).iter().filter(|element| element.is("bar")).map(tops).collect();
     found.sort();
@@ -275,11 +276,12 @@ fn not_offered(input: &str, node: usize) -> Option<String> {
     here.into_iter().find(|issue| !input.contains(&format!("A {issue}\n")))
 }
 
-/// A run of about forty lines: sends, then most often an offer with a delivery after it, and in one run of four a line
-/// that is as wide as can be.
+/// A run of about forty lines, in one run of four with another cap at node 0: sends, then most often an offer with a delivery
+/// after it, and in one run of four a line that is as wide as can be.
 fn forty(random: &mut Random) -> String {
     let n = random.within(3, 4);
-    let mut input = format!("{n} {n}\n");
+    let first = if random.once_in(4) { n * n } else { n };
+    let mut input = format!("{n} {first}{}\n", format!(" {n}").repeat(n - 1));
     if random.once_in(4) {
         input += "S 000 WWWWW\n";
     }
@@ -299,7 +301,7 @@ fn forty(random: &mut Random) -> String {
 fn no_text_covers_another_in_runs_of_forty_steps() {
     let mut random = Random::new(7);
     let mut extras = 0;
-    for _ in 0..200 {
+    for _ in 0..250 {
         let input = forty(&mut random);
         let svg = draw(&input);
         extras += words(&svg, "extra").len();

@@ -43,11 +43,22 @@ fn it_writes_what_the_library_draws() {
 
 #[test]
 fn it_refuses_what_is_no_yard_input() {
-    let mut longest = b"3 3\n".to_vec();
+    let mut longest = b"3 3 3 3\n".to_vec();
     longest.resize(4096, b'\n');
     assert!(run::<&str>(&[], &longest).status.success());
     let longer = [&longest[..], b"\n"].concat();
-    let inputs: [&[u8]; 9] = [b"", b"3 3", b"\n", b"x\n", b"3 2\n", b"5 5\n", b"3 10\n", b"3 3 \nS 0 1\n", &longer];
+    let inputs: [&[u8]; 10] = [
+        b"",
+        b"3 3 3 3",
+        b"\n",
+        b"x\n",
+        b"3 3\nS 0 1\n",
+        b"3 3 3 2\n",
+        b"5 5 5 5 5 5\n",
+        b"3 10 9 9\n",
+        b"3 3 3 3 \nS 0 1\n",
+        &longer,
+    ];
     for input in inputs {
         let case = format!("{:?}", String::from_utf8_lossy(&input[..input.len().min(20)]));
         assert_refused(&run::<&str>(&[], input), "this is no yard input", &case);
@@ -59,15 +70,15 @@ fn it_refuses_bad_names_with_its_usage() {
     let lists: [&[&str]; 6] =
         [&["a"], &["a", "b"], &["a", "b", "c", "d"], &["a", "", "c"], &["--help"], &["a", "-b", "c"]];
     for list in lists {
-        assert_refused(&run(list, b"3 3\n"), "usage: picture", &format!("{list:?}"));
+        assert_refused(&run(list, b"3 3 3 3\n"), "usage: picture", &format!("{list:?}"));
     }
-    assert!(run(&["a", "b", "c"], b"3 3\n").status.success());
+    assert!(run(&["a", "b", "c"], b"3 3 3 3\n").status.success());
 }
 
 #[test]
 fn it_refuses_a_name_that_is_no_text() {
     let list = [OsStr::from_bytes(b"\xFF"), OsStr::new("b")];
-    assert_refused(&run(&list, b"2 2\n"), "usage: picture", "bytes that are no text");
+    assert_refused(&run(&list, b"2 2 2\n"), "usage: picture", "bytes that are no text");
 }
 
 #[test]
@@ -75,7 +86,7 @@ fn it_says_that_the_output_cannot_be_written() {
     let full = File::options().write(true).open("/dev/full").expect("a device that takes nothing");
     let read_only = File::open("/dev/null").expect("a device that is open for reading alone");
     for (output, case) in [(full, "a full device"), (read_only, "no output for writing")] {
-        let output = run_to::<&str>(&[], b"2 2\nS 0 1\n", output.into());
+        let output = run_to::<&str>(&[], b"2 2 2\nS 0 1\n", output.into());
         assert_refused(&output, "the picture cannot be written", case);
     }
 }

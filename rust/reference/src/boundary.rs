@@ -1,6 +1,7 @@
-//! Lists that reach the largest frame, send and delivery, a full shelf, a full matrix, and an extra of a send. They run
-//! on anything that takes a list's steps, so that one implementation can be tested by them and two can be compared. And
-//! sends on both sides of 21, and loads that come to the end of their issues, or have halves in their shares.
+//! Lists that reach the largest frame, send and delivery, a full shelf, a full matrix, an extra of a send, and a frame that
+//! carries more than its receiver's cap. They run on anything that takes a list's steps, so that one implementation can be
+//! tested by them and two can be compared. And sends on both sides of 21, and loads that come to the end of their issues,
+//! or have halves in their shares.
 
 use crate::list::List;
 use crate::node::Delivery;
@@ -200,7 +201,52 @@ pub fn send_of_814(list: &mut impl Steps) -> usize {
     list.issued().len() - 1
 }
 
-/// A delivery that issues 504 bytes in seven extra frames (n 12, cap 55).
+/// Caps of 12 nodes among which a delivery at node 0 reaches [`delivery_of_846`]: the last has the largest, the nodes
+/// between them the least.
+pub const CAPS_OF_846: [usize; 12] = [19, 12, 12, 12, 12, 12, 12, 12, 12, 12, 12, 144];
+
+/// A delivery that issues 846 bytes in eleven extra frames, the most that any delivery issues (caps as above).
+///
+/// Why it is the most: let the frame go from 11 to 0 among 12 nodes, let c be the cap of node 0, and let s entries stand
+/// after the merge. The frame carries none of its sender's column, 11, and none of row 0 that node 0 lacks. So it adds at
+/// most ten entries to each of ten columns, to at most c that stood before: s is at most 100 + c. Up to ten extra frames
+/// have at most 10 × 78 bytes. All eleven have 11 × 12 bytes, and 6 more for each of the s entries. The last of them is
+/// issued only if one entry in each of ten columns, and the entries of the least full one, are more than c. If s were 120
+/// or more, c would be 20 or more, so every column would have 11 entries, s would be 121 and c 21, and the least full
+/// column would need 12. So s is at most 119, and 11 × 12 + 6 × 119 are the most bytes. Here c is 19, nine columns have 11
+/// entries, and two have 10. With fewer nodes, ten columns of ten entries have less.
+pub fn delivery_of_846(list: &mut impl Steps) {
+    send_all(list, 0, 1..=8);
+    send_ok(list, 0, 11);
+    send_all(list, 11, 1..=10);
+    for x in 1..=10 {
+        let first = send_ok(list, x, 11);
+        let hint = send_ok(list, x, 0);
+        assert_eq!(bring(list, hint).extras, 0);
+        send_all(list, x, 1..=10);
+        let second = send_ok(list, x, 11);
+        bring(list, first);
+        assert_eq!(bring(list, second).extras, 0);
+    }
+    let issue = send_ok(list, 11, 0);
+    let delivery = bring(list, issue);
+    assert_eq!((delivery.bytes, delivery.extras), (846, 11));
+}
+
+/// Lets node 0 of n, which has room for a full matrix, send all of it to node 1: (n − 1) × (n − 1) entries, which is more
+/// than the least cap for n above 2. Gives the delivery there.
+pub fn more_than_the_cap(list: &mut impl Steps, n: usize) -> Delivery {
+    assert_eq!(full_matrix(list, n).extras, 0);
+    let to_1: Vec<usize> = (0..list.issued().len()).filter(|issue| list.issued()[*issue][2] == 1).collect();
+    for issue in to_1 {
+        assert_eq!(bring(list, issue).extras, 0);
+    }
+    let issue = send_ok(list, 0, 1);
+    assert_eq!(list.issued()[issue][3] as usize, (n - 1) * (n - 1));
+    bring(list, issue)
+}
+
+/// A delivery that issues 504 bytes in seven extra frames, the most under one cap for all (n 12, cap 55).
 pub fn delivery_of_504(list: &mut impl Steps) {
     send_all(list, 11, 1..=10);
     for x in 6..=10 {

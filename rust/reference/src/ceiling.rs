@@ -89,6 +89,13 @@ impl Step {
 }
 
 impl Counts {
+    /// What the answers of these steps come to.
+    pub fn of<'a>(steps: impl IntoIterator<Item = &'a Step>) -> Counts {
+        let mut counts = Counts::default();
+        steps.into_iter().for_each(|step| counts.add(step));
+        counts
+    }
+
     /// Counts a step.
     fn add(&mut self, step: &Step) {
         let reported = step.reported;

@@ -54,7 +54,7 @@ impl<'a> Frame<'a> {
     /// The frame that these bytes are whole, or the first of checks 8 to 14 that they meet at this record.
     pub fn check(bytes: &'a [u8], record: &Record) -> Result<Frame<'a>, Refusal> {
         refuse(!has_sound_trailer(bytes), 8)?;
-        let frame = Frame::check_parts(bytes, record.n, record.cap)?;
+        let frame = Frame::check_parts(bytes, record.n as usize)?;
         refuse(frame.to() != record.me as usize, 12)?;
         refuse(frame.knows_more_than(record), 13)?;
         refuse(frame.number() <= record.deliv[frame.from()], 14)?;
@@ -65,17 +65,18 @@ impl<'a> Frame<'a> {
     /// a record's, or 1 where these are out of range.
     pub fn check_alone(bytes: &'a [u8]) -> Result<Frame<'a>, Refusal> {
         refuse(!has_sound_trailer(bytes), 8)?;
-        let (n, cap) = (bytes[5], bytes[6]);
-        refuse(!in_range(0, n as usize, cap as usize), 1)?;
-        Frame::check_parts(bytes, n, cap)
+        let [n, cap] = [bytes[5], bytes[6]].map(usize::from);
+        refuse(!in_range(0, n, cap), 1)?;
+        Frame::check_parts(bytes, n)
     }
 
-    /// The frame that these bytes with a sound trailer are, or the first of checks 9 to 11 that they meet.
-    fn check_parts(bytes: &'a [u8], n: u8, cap: u8) -> Result<Frame<'a>, Refusal> {
+    /// The frame that these bytes with a sound trailer are, or the first of checks 9 to 11 that they meet among n nodes;
+    /// the cap is the frame's own.
+    fn check_parts(bytes: &'a [u8], n: usize) -> Result<Frame<'a>, Refusal> {
         refuse(!matches!(bytes[0], USER | EXTRA) || bytes[7] != 0, 9)?;
-        refuse(!has_sound_parties(bytes, n, cap), 10)?;
+        refuse(!has_sound_parties(bytes, n), 10)?;
         let frame = Frame::first_of(bytes).filter(|frame| frame.bytes.len() == bytes.len()).ok_or(11)?;
-        refuse(!frame.has_sound_parts(n as usize, cap as usize), 11)?;
+        refuse(!frame.has_sound_parts(n), 11)?;
         Ok(frame)
     }
 
@@ -97,6 +98,11 @@ impl<'a> Frame<'a> {
     /// The node it is for.
     pub fn to(&self) -> usize {
         self.bytes[2] as usize
+    }
+
+    /// The cap of the node that issued it.
+    pub fn cap(&self) -> usize {
+        self.bytes[6] as usize
     }
 
     /// e, the entry count.
@@ -136,11 +142,11 @@ impl<'a> Frame<'a> {
         self.entries().all(|entry| entry.column != to || entry.value <= deliv[entry.row])
     }
 
-    /// b and e keep their rules, and so does every entry.
-    fn has_sound_parts(&self, n: usize, cap: usize) -> bool {
+    /// b and e keep their rules, e by the frame's own cap, and so does every entry.
+    fn has_sound_parts(&self, n: usize) -> bool {
         let longest = if self.kind() == USER { Record::BODY } else { 0 };
         self.body().len() <= longest
-            && self.entry_count() <= cap
+            && self.entry_count() <= self.cap()
             && self.entries().all(|entry| self.allows(entry, n))
             && self.entries_rise()
     }
@@ -186,10 +192,11 @@ fn has_sound_trailer(bytes: &[u8]) -> bool {
     trailer == trailer_of(front)
 }
 
-/// The frame's n and cap are these, from and to are below n, and they are unequal.
-fn has_sound_parties(bytes: &[u8], n: u8, cap: u8) -> bool {
-    let (from, to) = (bytes[1], bytes[2]);
-    bytes[5] == n && bytes[6] == cap && from < n && to < n && from != to
+/// The frame's n is this one, its cap, which is its sender's, is in range for it, from and to are below n, and they are
+/// unequal.
+fn has_sound_parties(bytes: &[u8], n: usize) -> bool {
+    let [from, to, frame_n, cap] = [bytes[1], bytes[2], bytes[5], bytes[6]].map(usize::from);
+    frame_n == n && in_range(from, n, cap) && to < n && from != to
 }
 
 /// The byte count in front of the trailer, then the sum over all bytes before the sum, the two of the count among them.

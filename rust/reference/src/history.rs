@@ -34,7 +34,8 @@ struct Issue {
 /// Accepted steps, each an event, and the frames in issue order, counted from 0.
 #[derive(Clone, Debug)]
 pub struct History {
-    cap: usize,
+    /// The cap of each node.
+    caps: Vec<usize>,
     issues: Vec<Issue>,
     labels: HashMap<Label, usize>,
     pasts: Vec<Past>,
@@ -45,10 +46,10 @@ pub struct History {
 }
 
 impl History {
-    /// The history of a list before its first step.
-    pub fn start(n: usize, cap: usize) -> History {
-        let (last_at, held_at) = (vec![None; n], vec![0; n]);
-        History { cap, issues: Vec::new(), labels: HashMap::new(), pasts: Vec::new(), last_at, held_at }
+    /// The history of a list of nodes with these caps before its first step.
+    pub fn start(caps: &[usize]) -> History {
+        let (caps, last_at, held_at) = (caps.to_vec(), vec![None; caps.len()], vec![0; caps.len()]);
+        History { caps, issues: Vec::new(), labels: HashMap::new(), pasts: Vec::new(), last_at, held_at }
     }
 
     /// An accepted send and the frames that it issued: the user frame first, then extras.
@@ -78,9 +79,15 @@ impl History {
         self.event(node, None);
     }
 
-    /// A delivery, the body that it wrote and the extras that it issued: the frame was issued and held, it was not
-    /// delivered before, and the body is the one that was sent.
-    pub fn delivery(&mut self, node: usize, delivery: &Delivery, body: &[u8], issued: &[Vec<u8>]) -> Result<(), Wrong> {
+    /// A delivery, the body that it wrote and the extras that it issued: the frame, which it gives, was issued and held, it
+    /// was not delivered before, and the body is the one that was sent.
+    pub fn delivery(
+        &mut self,
+        node: usize,
+        delivery: &Delivery,
+        body: &[u8],
+        issued: &[Vec<u8>],
+    ) -> Result<usize, Wrong> {
         let issue = self.find(delivery.from, node, delivery.number).ok_or("what was delivered was not issued")?;
         let Issue { kind, event: sent, delivered, held, .. } = self.issues[issue];
         ensure(delivered.is_none(), || format!("issue {issue} was delivered twice"))?;
@@ -88,10 +95,10 @@ impl History {
         ensure(delivery.kind == kind, || format!("issue {issue} was delivered as another kind"))?;
         ensure(body == self.issues[issue].body, || format!("issue {issue} was delivered with another body"))?;
         let event = self.event(node, (kind == USER).then_some(sent));
-        let issue = &mut self.issues[issue];
-        (issue.held, issue.delivered) = (false, Some(event));
+        (self.issues[issue].held, self.issues[issue].delivered) = (false, Some(event));
         self.held_at[node] -= 1;
-        self.issue_extras(event, node, issued)
+        self.issue_extras(event, node, issued)?;
+        Ok(issue)
     }
 
     /// Whether an issue was delivered.
@@ -185,8 +192,8 @@ impl History {
         Ok(())
     }
 
-    /// Takes up a frame that an event's step issued at a node: it carries at most cap entries, and no other frame has
-    /// its from, to and number.
+    /// Takes up a frame that an event's step issued at a node: it carries the node's cap and at most so many entries, and
+    /// no other frame has its from, to and number.
     fn issue(
         &mut self,
         event: usize,
@@ -197,8 +204,10 @@ impl History {
     ) -> Result<(), Wrong> {
         let frame = Frame::first_of(bytes).ok_or("an issued frame is not whole")?;
         let (kind, from, to, number) = (frame.kind(), frame.from(), frame.to(), frame.number());
+        let (cap, entries) = (self.caps[node], frame.entry_count());
         ensure(from == node, || format!("{node} issued a frame from {from}"))?;
-        ensure(frame.entry_count() <= self.cap, || format!("a frame carries {} entries", frame.entry_count()))?;
+        ensure(frame.cap() == cap, || format!("a frame of {node}, whose cap is {cap}, carries cap {}", frame.cap()))?;
+        ensure(entries <= cap, || format!("a frame of {node}, whose cap is {cap}, carries {entries} entries"))?;
         let other = self.labels.insert((from, to, number), self.issues.len());
         ensure(other.is_none(), || format!("two frames from {from} to {to} have number {number}"))?;
         self.issues.push(Issue { kind, to, class, body: body.to_vec(), event, held: false, delivered: None });

@@ -1,6 +1,6 @@
 //! A list: n nodes that start with fresh records and all-zero shelves, and the frames issued so far.
 
-use crate::frame::Frame;
+use crate::frame::{refuse, Frame};
 use crate::node::OUTPUT;
 use crate::{deliver, offer, send, shelf, DeliverAnswer, OfferAnswer, Record, Refusal, SendAnswer};
 
@@ -11,7 +11,7 @@ pub struct Seat {
     pub shelf: Vec<u8>,
 }
 
-/// One for each me below n, with one n and one cap, and the frames in issue order.
+/// One for each me below n, with one n and a cap for each, and the frames in issue order.
 #[derive(Clone, Debug)]
 pub struct List {
     pub seats: Vec<Seat>,
@@ -19,12 +19,23 @@ pub struct List {
 }
 
 impl List {
-    /// A list before its first step; 1 when n or cap is out of range.
-    pub fn start(n: usize, cap: usize) -> Result<List, Refusal> {
-        Record::fresh(0, n, cap)?;
-        let seat = |me| Ok(Seat { record: Record::fresh(me, n, cap)?, shelf: vec![0; shelf::LENGTH] });
-        let seats = (0..n).map(seat).collect::<Result<_, Refusal>>()?;
+    /// A list of nodes with these caps before its first step; 1 when their number or a cap is out of range.
+    pub fn start(caps: &[usize]) -> Result<List, Refusal> {
+        refuse(caps.is_empty(), 1)?;
+        let record = |(me, cap): (usize, &usize)| Record::fresh(me, caps.len(), *cap);
+        let seat = |node| Ok(Seat { record: record(node)?, shelf: vec![0; shelf::LENGTH] });
+        let seats = caps.iter().enumerate().map(seat).collect::<Result<_, Refusal>>()?;
         Ok(List { seats, issued: Vec::new() })
+    }
+
+    /// A list of n nodes with one cap for all.
+    pub fn alike(n: usize, cap: usize) -> Result<List, Refusal> {
+        List::start(&vec![cap; n])
+    }
+
+    /// The caps of the nodes.
+    pub fn caps(&self) -> Vec<usize> {
+        self.seats.iter().map(|seat| seat.record.cap as usize).collect()
     }
 
     /// The number of nodes.

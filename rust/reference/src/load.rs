@@ -51,9 +51,9 @@ impl Load {
         self.n..=self.n * self.n
     }
 
-    /// The tally of a plant with this cap after the draws.
+    /// The tally of a plant with this one cap for all nodes after the draws.
     pub fn run(&self, cap: usize) -> Tally {
-        let mut plant = Plant::start(self.n, cap, ISSUES).expect("n and cap are in range");
+        let mut plant = Plant::start(&vec![cap; self.n], ISSUES).expect("n and cap are in range");
         for draw in Xorshift::new(self.seed).take(self.draws) {
             step(&mut plant, draw as usize);
         }

@@ -61,9 +61,9 @@ pub struct Plant {
 }
 
 impl Plant {
-    /// A plant before its first step; 1 when n or cap is out of range.
-    pub fn start(n: usize, cap: usize, issues: usize) -> Result<Plant, Refusal> {
-        Ok(Plant { list: List::start(n, cap)?, tally: Tally::default(), issues })
+    /// A plant of nodes with these caps before its first step; 1 when their number or a cap is out of range.
+    pub fn start(caps: &[usize], issues: usize) -> Result<Plant, Refusal> {
+        Ok(Plant { list: List::start(caps)?, tally: Tally::default(), issues })
     }
 
     /// A send from i with an empty body; nothing with fewer than n issues left.

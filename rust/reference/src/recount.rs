@@ -92,14 +92,14 @@ impl Sum for Fates {
 
 /// The fates in a yard's run.
 pub fn yard(run: &Run) -> Fates {
-    let mut walk = Walk::start(run.n, run.cap, yard::ISSUES);
+    let mut walk = Walk::start(&run.caps, yard::ISSUES);
     run.lines.iter().filter_map(|line| line.step).for_each(|step| walk.step(step));
     walk.fates
 }
 
-/// The fates in a load's run under one cap.
+/// The fates in a load's run under one cap for all nodes.
 pub fn load(load: &Load, cap: usize) -> Fates {
-    let mut walk = Walk::start(load.n, cap, load::ISSUES);
+    let mut walk = Walk::start(&vec![cap; load.n], load::ISSUES);
     for draw in Xorshift::new(load.seed).take(load.draws) {
         if let Some(step) = drawn(draw as usize, load.n, walk.list.issued.len()) {
             walk.step(step);
@@ -130,10 +130,10 @@ struct Walk {
 }
 
 impl Walk {
-    /// A walk before the first step; n and cap are in range.
-    fn start(n: usize, cap: usize, issues: usize) -> Walk {
-        let list = List::start(n, cap).expect("n and cap are in range");
-        Walk { list, issues, passed: vec![Vec::new(); n], fates: Fates::default() }
+    /// A walk before the first step of nodes with these caps, which are in range.
+    fn start(caps: &[usize], issues: usize) -> Walk {
+        let list = List::start(caps).expect("the caps are in range");
+        Walk { list, issues, passed: vec![Vec::new(); caps.len()], fates: Fates::default() }
     }
 
     /// Makes a step, unless it names no node or issue, or is a send or a deliver with fewer than n issues left.

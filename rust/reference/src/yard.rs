@@ -35,13 +35,19 @@ pub struct Line<'a> {
     pub events: Vec<Event>,
 }
 
-/// A whole run: the first line's numbers, what each line after it did, and the tally.
+/// A whole run: the first line's caps, one for each node, what each line after it did, and the tally.
 #[derive(Clone, Debug, PartialEq, Eq)]
 pub struct Run<'a> {
-    pub n: usize,
-    pub cap: usize,
+    pub caps: Vec<usize>,
     pub lines: Vec<Line<'a>>,
     pub tally: Tally,
+}
+
+impl Run<'_> {
+    /// The number of nodes.
+    pub fn n(&self) -> usize {
+        self.caps.len()
+    }
 }
 
 /// Prints a line for each event, then the tally.
@@ -62,20 +68,20 @@ pub fn yard(input: &[u8]) -> Vec<u8> {
 
 /// Runs an input; nothing for one that prints `R 17` alone.
 pub fn run(input: &[u8]) -> Option<Run<'_>> {
-    let (n, cap, rest) = start(input)?;
-    let mut plant = Plant::start(n, cap, ISSUES).ok()?;
+    let (caps, rest) = start(input)?;
+    let mut plant = Plant::start(&caps, ISSUES).ok()?;
     let lines = rest.split_inclusive(|byte| *byte == b'\n').map(|line| run_line(&mut plant, line)).collect();
-    Some(Run { n, cap, lines, tally: plant.tally })
+    Some(Run { caps, lines, tally: plant.tally })
 }
 
-/// The n and cap of the first line, and the input after that line.
-fn start(input: &[u8]) -> Option<(usize, usize, &[u8])> {
+/// The caps of the first line, as many as its n says, and the input after that line.
+fn start(input: &[u8]) -> Option<(Vec<usize>, &[u8])> {
     if input.len() > INPUT {
         return None;
     }
     let end = input.iter().position(|byte| *byte == b'\n')?;
-    let (n, cap) = read_first(&input[..end])?;
-    NODES.contains(&n).then_some((n, cap, &input[end + 1..]))
+    let (n, caps) = read_first(&input[..end])?;
+    (NODES.contains(&n) && caps.len() == n).then_some((caps, &input[end + 1..]))
 }
 
 /// Runs one line; 17 is given for another line, such as bytes after the last line feed.
@@ -149,12 +155,12 @@ fn issued_since(list: &List, before: usize) -> impl Iterator<Item = Event> + '_ 
     })
 }
 
-/// First line: n and cap.
-fn read_first(line: &[u8]) -> Option<(usize, usize)> {
-    match fields(line)[..] {
-        [n, cap] => Some((read_number(n, DIGITS)?, read_number(cap, DIGITS)?)),
-        _ => None,
-    }
+/// First line: n, then caps.
+fn read_first(line: &[u8]) -> Option<(usize, Vec<usize>)> {
+    let fields = fields(line);
+    let (n, caps) = fields.split_first()?;
+    let caps = caps.iter().map(|cap| read_number(cap, DIGITS)).collect::<Option<_>>()?;
+    Some((read_number(n, DIGITS)?, caps))
 }
 
 /// Then `S i j`, `A m`, `D j`.

@@ -3,7 +3,7 @@
 mod common;
 
 use common::draft;
-use reference::boundary::{self, Steps};
+use reference::boundary::{self, Steps, CAPS_OF_846};
 use reference::ceiling::{check, large_cap, longest, Counts, Said, Step};
 use reference::frame::{EXTRA, USER};
 use reference::list::List;
@@ -189,15 +189,14 @@ struct Watched {
 }
 
 impl Watched {
-    /// A list before its first step.
-    fn start(n: usize, cap: usize) -> Watched {
-        Watched { list: List::start(n, cap).unwrap(), steps: Vec::new() }
+    /// A list of nodes with these caps before its first step.
+    fn start(caps: &[usize]) -> Watched {
+        Watched { list: List::start(caps).unwrap(), steps: Vec::new() }
     }
 
     /// What its answers come to, which must be within the ceiling.
     fn counts(&self) -> Counts {
-        let caps: Vec<usize> = self.list.seats.iter().map(|seat| seat.record.cap as usize).collect();
-        check(&caps, &self.steps, &self.list.issued).unwrap()
+        check(&self.list.caps(), &self.steps, &self.list.issued).unwrap()
     }
 }
 
@@ -228,7 +227,7 @@ impl Steps for Watched {
 
 #[test]
 fn a_send_that_issues_its_one_extra() {
-    let mut list = Watched::start(4, 4);
+    let mut list = Watched::start(&[4; 4]);
     boundary::send_with_an_extra(&mut list);
     let counts = Counts { sent: 6, delivered: 1, extras_of_sends: 1, ..Counts::default() };
     assert_eq!(list.counts(), counts);
@@ -237,23 +236,43 @@ fn a_send_that_issues_its_one_extra() {
     assert_eq!(extra.entries().collect::<Vec<_>>(), common::entries(&[(0, 1, 1), (3, 1, 1)]));
 }
 
+/// Caps of n nodes: that of node 0, and one for the others.
+fn caps(n: usize, first: usize, others: usize) -> Vec<usize> {
+    [vec![first], vec![others; n - 1]].concat()
+}
+
 #[test]
 fn both_sides_of_a_large_cap() {
     for n in 3..=12 {
         for (cap, extras) in [(large_cap(n) - 1, 1), (large_cap(n), 0), (large_cap(n) + 1, 0), (n * n, 0)] {
-            let mut list = Watched::start(n, cap);
-            assert_eq!(boundary::full_matrix(&mut list, n).extras, extras, "n {n}, cap {cap}");
-            assert_eq!(list.counts().extras(), extras, "n {n}, cap {cap}");
-            let standing = large_cap(n) - extras * (n - 2);
-            assert_eq!(list.list.seats[0].record.standing(), standing, "n {n}, cap {cap}");
+            // It is node 0's own cap that counts, whatever the others' caps are.
+            for others in [cap, n, n * n] {
+                let mut list = Watched::start(&caps(n, cap, others));
+                assert_eq!(boundary::full_matrix(&mut list, n).extras, extras, "n {n}, cap {cap}");
+                assert_eq!(list.counts().extras(), extras, "n {n}, cap {cap}");
+                let standing = large_cap(n) - extras * (n - 2);
+                assert_eq!(list.list.seats[0].record.standing(), standing, "n {n}, cap {cap}");
+            }
         }
+    }
+}
+
+#[test]
+fn extras_at_a_node_with_the_least_cap_beside_one_with_the_largest() {
+    for n in 4..=12 {
+        let mut list = Watched::start(&caps(n, n * n, n));
+        boundary::more_than_the_cap(&mut list, n);
+        assert_eq!(list.counts().extras_of_deliveries, n - 2, "n {n}");
+        let from = |issue| (list.list.frame(issue).kind(), list.list.frame(issue).from());
+        let extras = (0..list.issued().len()).map(from).filter(|(kind, _)| *kind == EXTRA);
+        assert!(extras.into_iter().all(|(_, from)| from == 1), "n {n}");
     }
 }
 
 #[test]
 fn two_nodes_issue_no_extra() {
     for cap in 2..=4 {
-        let mut list = Watched::start(2, cap);
+        let mut list = Watched::start(&[cap; 2]);
         boundary::full_matrix(&mut list, 2);
         assert_eq!((large_cap(2), list.counts().extras()), (1, 0));
     }
@@ -265,14 +284,17 @@ fn the_largest_frames_are_as_planned() {
         let lengths = list.issued().iter().filter(|frame| frame[0] == kind).map(Vec::len);
         (list.counts().extras(), lengths.max().unwrap())
     };
-    let mut list = Watched::start(12, 121);
+    let mut list = Watched::start(&[121; 12]);
     boundary::frame_of_802(&mut list);
     assert_eq!(longest_of(&list, USER), (0, longest(USER, 12, 121)));
-    let mut list = Watched::start(12, 110);
+    let mut list = Watched::start(&[110; 12]);
     boundary::send_of_814(&mut list);
     assert_eq!(longest_of(&list, USER), (1, longest(USER, 12, 110)));
     assert_eq!(longest_of(&list, EXTRA), (1, longest(EXTRA, 12, 110)));
-    let mut list = Watched::start(12, 55);
+    let mut list = Watched::start(&[55; 12]);
     boundary::delivery_of_504(&mut list);
     assert_eq!((list.counts().several, list.counts().most), (1, 7));
+    let mut list = Watched::start(&CAPS_OF_846);
+    boundary::delivery_of_846(&mut list);
+    assert_eq!((list.counts().several, list.counts().most), (1, 11));
 }

@@ -16,25 +16,25 @@ fn check(lines: &[&str], printed: &[&str]) {
 fn a_frame_that_two_nones_pass_over_is_one_delay() {
     // Issue 2 carries (0,1) = 1, and nothing from 0 is delivered at 1.
     let sent = ["S 1 0 1 0", "S 2 0 1 1", "A 2 1"];
-    check(&["2 2", "S 0 1", "S 0 1", "A 2"], &[&sent[..], &["T 2 0 0 1 0"]].concat());
+    check(&["2 2 2", "S 0 1", "S 0 1", "A 2"], &[&sent[..], &["T 2 0 0 1 0"]].concat());
     let passed = ["N 1 1", "N 1 1", "T 2 0 0 1 0"];
-    check(&["2 2", "S 0 1", "S 0 1", "A 2", "D 1", "D 1"], &[&sent[..], &passed].concat());
+    check(&["2 2 2", "S 0 1", "S 0 1", "A 2", "D 1", "D 1"], &[&sent[..], &passed].concat());
 }
 
 #[test]
 fn a_none_on_an_empty_shelf_counts_nothing() {
-    check(&["2 2", "D 0", "D 1", "D 1"], &["N 0 0", "N 1 0", "N 1 0", "T 0 0 0 0 0"]);
+    check(&["2 2 2", "D 0", "D 1", "D 1"], &["N 0 0", "N 1 0", "N 1 0", "T 0 0 0 0 0"]);
     // The frame is held at 1, and the shelf at 0 is empty.
-    check(&["2 2", "S 0 1", "A 1", "D 0"], &["S 1 0 1 0", "A 1 1", "N 0 0", "T 1 0 0 0 0"]);
+    check(&["2 2 2", "S 0 1", "A 1", "D 0"], &["S 1 0 1 0", "A 1 1", "N 0 0", "T 1 0 0 0 0"]);
 }
 
 #[test]
 fn a_frame_accepted_while_deliverable_counts_nothing() {
     // Issue 2 carries (0,2) = 1, which is no entry of column 1.
-    check(&["3 3", "S 0 2", "S 0 1", "A 2", "D 1"], &["S 1 0 2 0", "S 2 0 1 1", "A 2 1", "D 1 2 1", "T 2 0 1 0 0"]);
+    check(&["3 3 3 3", "S 0 2", "S 0 1", "A 2", "D 1"], &["S 1 0 2 0", "S 2 0 1 1", "A 2 1", "D 1 2 1", "T 2 0 1 0 0"]);
     // Issue 2 carries (0,1) = 1, which is as much as DELIV has by then.
     check(
-        &["2 2", "S 0 1", "S 0 1", "A 1", "D 1", "A 2", "D 1"],
+        &["2 2 2", "S 0 1", "S 0 1", "A 1", "D 1", "A 2", "D 1"],
         &["S 1 0 1 0", "S 2 0 1 1", "A 1 1", "D 1 1 1", "A 2 1", "D 1 2 1", "T 2 0 2 0 0"],
     );
 }
@@ -43,14 +43,14 @@ fn a_frame_accepted_while_deliverable_counts_nothing() {
 fn a_frame_that_waits_for_a_held_one_is_delayed_without_any_none() {
     // Issue 1 is held and not yet delivered when issue 2 is offered.
     check(
-        &["2 2", "S 0 1", "S 0 1", "A 1", "A 2", "D 1", "D 1"],
+        &["2 2 2", "S 0 1", "S 0 1", "A 1", "A 2", "D 1", "D 1"],
         &["S 1 0 1 0", "S 2 0 1 1", "A 1 1", "A 2 2", "D 1 1 1", "D 1 2 1", "T 2 0 2 1 0"],
     );
 }
 
 #[test]
 fn a_delayed_frame_that_is_offered_again_counts_nothing_more() {
-    let lines = ["2 2", "S 0 1", "S 0 1", "A 2", "A 2", "A 2", "A 1", "A 2", "D 1", "A 2", "D 1", "A 2"];
+    let lines = ["2 2 2", "S 0 1", "S 0 1", "A 2", "A 2", "A 2", "A 1", "A 2", "D 1", "A 2", "D 1", "A 2"];
     // Refused three times while it waits, once when it is held and deliverable, and once after its delivery.
     let held = ["S 1 0 1 0", "S 2 0 1 1", "A 2 1", "R 15", "R 15", "A 1 2", "R 15", "D 1 1 2", "R 15"];
     check(&lines, &[&held[..], &["D 1 2 1", "R 14", "T 2 0 2 1 0"]].concat());
@@ -59,7 +59,7 @@ fn a_delayed_frame_that_is_offered_again_counts_nothing_more() {
 #[test]
 fn a_delay_stays_after_the_delivery() {
     let sent = ["S 1 0 1 0", "S 2 0 1 1", "A 2 1", "N 1 1", "A 1 2"];
-    let (lines, delivers) = (["2 2", "S 0 1", "S 0 1", "A 2", "D 1", "A 1"], ["D 1", "D 1"]);
+    let (lines, delivers) = (["2 2 2", "S 0 1", "S 0 1", "A 2", "D 1", "A 1"], ["D 1", "D 1"]);
     check(&lines, &[&sent[..], &["T 2 0 0 1 0"]].concat());
     let delivered = ["D 1 1 2", "D 1 2 1", "T 2 0 2 1 0"];
     check(&[&lines[..], &delivers].concat(), &[&sent[..], &delivered].concat());
@@ -68,7 +68,7 @@ fn a_delay_stays_after_the_delivery() {
 #[test]
 fn two_waiting_frames_are_two_delays() {
     check(
-        &["2 2", "S 0 1", "S 0 1", "S 0 1", "A 3", "A 2", "D 1", "A 1", "D 1", "D 1", "D 1"],
+        &["2 2 2", "S 0 1", "S 0 1", "S 0 1", "A 3", "A 2", "D 1", "A 1", "D 1", "D 1", "D 1"],
         &[
             "S 1 0 1 0",
             "S 2 0 1 1",
@@ -85,7 +85,7 @@ fn two_waiting_frames_are_two_delays() {
     );
     // One at 1 and one at 2: issues 2 and 4 carry (0,1) = 1 and (0,2) = 1.
     check(
-        &["3 3", "S 0 1", "S 0 1", "S 0 2", "S 0 2", "A 2", "A 4"],
+        &["3 3 3 3", "S 0 1", "S 0 1", "S 0 2", "S 0 2", "A 2", "A 4"],
         &["S 1 0 1 0", "S 2 0 1 1", "S 3 0 2 1", "S 4 0 2 2", "A 2 1", "A 4 1", "T 4 0 0 2 0"],
     );
 }
@@ -106,14 +106,14 @@ fn a_full_shelf_counts_nothing_more() {
         "A 17 15\nT 17 0 2 16 0\n",
     ];
     for (count, end) in ends.into_iter().enumerate() {
-        let output = String::from_utf8(yard(format!("2 2\n{sends}{}", lines[..=count].concat()).as_bytes())).unwrap();
+        let output = String::from_utf8(yard(format!("2 2 2\n{sends}{}", lines[..=count].concat()).as_bytes())).unwrap();
         assert!(output.ends_with(end), "{output}");
     }
 }
 
 #[test]
 fn an_extra_frame_is_delayed_like_a_user_frame() {
-    let sends = ["3 3", "S 0 1", "S 0 2", "S 1 2", "S 1 0", "S 2 1", "S 2 0", "A 4", "D 0", "A 6", "D 0"];
+    let sends = ["3 3 3 3", "S 0 1", "S 0 2", "S 1 2", "S 1 0", "S 2 1", "S 2 0", "A 4", "D 0", "A 6", "D 0"];
     let sent = ["S 1 0 1 0", "S 2 0 2 1", "S 3 1 2 0", "S 4 1 0 1", "S 5 2 1 0", "S 6 2 0 1"];
     let trimmed = ["A 4 1", "D 0 4 1", "A 6 1", "D 0 6 1", "X 7 0 1 2"];
     let front = [&sent[..], &trimmed].concat();
@@ -146,9 +146,10 @@ enum Style {
 /// A yard whose offers are mostly of frames that were issued.
 fn any_yard(random: &mut Random) -> String {
     let n = random.within(2, 4);
+    let caps: String = (0..n).map(|_| format!(" {}", random.pick(&[n, n, n + 1, n * n]))).collect();
     let style = random.pick(&[Style::Any, Style::Crowd, Style::Bring]);
     let delivers: String = (0..n).filter(|_| style == Style::Bring).map(|node| format!("D {node}\n")).collect();
-    let mut input = format!("{n} {n}\n");
+    let mut input = format!("{n}{caps}\n");
     for _ in 0..random.within(1, 160) {
         let (i, j) = if style == Style::Crowd { (0, 1) } else { (random.below(n), random.below(n)) };
         let sends = input.matches('S').count().min(ISSUES);

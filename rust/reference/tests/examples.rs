@@ -43,7 +43,7 @@ fn body_and_destination() {
 
 #[test]
 fn a_delivery_trims_the_lowest_of_the_fullest_columns() {
-    let mut list = List::start(3, 3).unwrap();
+    let mut list = List::alike(3, 3).unwrap();
     for (i, j) in [(0, 1), (0, 2), (1, 2), (1, 0), (2, 1), (2, 0)] {
         assert!(matches!(list.send(i, j, 0, &[]), SendAnswer::Sent { extras: 0, .. }));
     }
@@ -64,7 +64,7 @@ fn a_delivery_trims_the_lowest_of_the_fullest_columns() {
 
 #[test]
 fn a_frame_offered_again() {
-    let mut list = List::start(3, 3).unwrap();
+    let mut list = List::alike(3, 3).unwrap();
     list.send(0, 1, 2, b"x");
     assert_eq!(list.offer(1, 0), OfferAnswer::Held { held: 1, deliverable: true });
     assert_eq!(list.offer(1, 0), OfferAnswer::Refused(15));
@@ -74,7 +74,7 @@ fn a_frame_offered_again() {
 
 #[test]
 fn the_sixteenth_place_is_for_a_deliverable_frame() {
-    let mut list = List::start(3, 3).unwrap();
+    let mut list = List::alike(3, 3).unwrap();
     for _ in 0..18 {
         list.send(0, 1, 0, &[]);
     }

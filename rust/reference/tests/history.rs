@@ -15,7 +15,7 @@ struct Story {
 impl Story {
     /// A story of three nodes and cap 3.
     fn start() -> Story {
-        Story { history: History::start(3, 3), issued: Vec::new() }
+        Story { history: History::start(&[3; 3]), issued: Vec::new() }
     }
 
     /// A user frame with this number; gives the issue.
@@ -37,7 +37,7 @@ impl Story {
         let number = Frame::first_of(&self.issued[issue]).unwrap().number();
         let delivery =
             Delivery { kind, from: from as usize, number, looked: 1, body: 0, bytes: 0, extras: extras.len() };
-        self.history.delivery(to as usize, &delivery, &[], extras)
+        self.history.delivery(to as usize, &delivery, &[], extras).map(|delivered| assert_eq!(delivered, issue))
     }
 }
 
@@ -104,13 +104,29 @@ fn twice() {
     assert!(story.send(0, 1, 1).unwrap_err().contains("number 1"));
 }
 
-#[test]
-fn more_entries_than_the_cap() {
-    let mut draft = draft(USER, 0, 1);
-    for (row, column) in [(0, 1), (0, 2), (1, 2), (2, 1)] {
+/// What a history of three nodes with these caps says of a frame from 0 to 1 with this cap and so many entries.
+fn carried(caps: [usize; 3], cap: u8, entries: usize) -> Result<(), String> {
+    let mut draft = Draft { cap, ..draft(USER, 0, 1) };
+    for (row, column) in [(0, 1), (0, 2), (1, 2), (2, 1)].into_iter().take(entries) {
         draft.set(row, column, 1);
     }
-    Story::start().history.send(0, 1, 0, &[], &[draft.bytes()]).unwrap_err();
+    History::start(&caps).send(0, 1, 0, &[], &[draft.bytes()])
+}
+
+#[test]
+fn more_entries_than_the_senders_cap() {
+    for caps in [[3; 3], [3, 9, 9]] {
+        carried(caps, 3, 3).unwrap();
+        assert!(carried(caps, 3, 4).unwrap_err().contains("4 entries"));
+    }
+    carried([4, 3, 3], 4, 4).unwrap();
+}
+
+#[test]
+fn another_cap_than_the_senders() {
+    for cap in [2, 4, 9] {
+        assert!(carried([3, cap, cap], cap as u8, 1).unwrap_err().contains(&format!("carries cap {cap}")));
+    }
 }
 
 /// A user frame from 0 to 1 with this body behind two entries, which is the second to go there.
@@ -123,7 +139,7 @@ fn speech(body: &[u8]) -> Vec<u8> {
 
 /// What a history says of the rights by this table when a send of this class and body issued the frame.
 fn said(table: &Table, class: usize, body: &[u8], frame: Vec<u8>) -> Result<(), String> {
-    let mut history = History::start(3, 3);
+    let mut history = History::start(&[3; 3]);
     let log = [frame];
     history.send(0, 1, class, body, &log).unwrap();
     history.rights_kept(table, &log)

@@ -20,6 +20,8 @@ struct Run {
     said: Vec<(usize, usize)>,
     /// How many sends were refused with 21.
     unsaid: usize,
+    /// How many frames were held that carry more entries than their node's cap.
+    beyond: usize,
     random: Random,
 }
 
@@ -27,9 +29,10 @@ impl Run {
     fn start(seed: u64) -> Run {
         let mut random = Random::new(seed);
         let n = random.within(2, 12);
-        let cap = if random.once_in(2) { n } else { random.within(n, n * n) };
-        let (list, history) = (List::start(n, cap).unwrap(), History::start(n, cap));
-        Run { list, history, steps: Vec::new(), lost: Vec::new(), said: Vec::new(), unsaid: 0, random }
+        let caps: Vec<usize> = (0..n).map(|_| any_cap(&mut random, n)).collect();
+        let (list, history) = (List::start(&caps).unwrap(), History::start(&caps));
+        let (steps, lost, said) = (Vec::new(), Vec::new(), Vec::new());
+        Run { list, history, steps, lost, said, unsaid: 0, beyond: 0, random }
     }
 
     /// Loses some of the frames that were issued since.
@@ -89,8 +92,7 @@ impl Run {
 
     /// What the answers come to, which is within the ceiling on extras.
     fn counts(&self) -> Counts {
-        let caps: Vec<usize> = self.list.seats.iter().map(|seat| seat.record.cap as usize).collect();
-        ceiling::check(&caps, &self.steps, &self.list.issued).unwrap()
+        ceiling::check(&self.list.caps(), &self.steps, &self.list.issued).unwrap()
     }
 
     /// Brings one of the newest or of all frames, mostly to its destination.
@@ -112,6 +114,8 @@ impl Run {
         if let OfferAnswer::Held { held, .. } = self.list.offer(node, issue) {
             assert_eq!(self.history.offer(node, &self.list.issued[issue]), Ok(issue));
             assert!(held <= 16 && held == self.history.held_at(node));
+            let cap = self.list.seats[node].record.cap as usize;
+            self.beyond += usize::from(self.list.frame(issue).entry_count() > cap);
         }
     }
 
@@ -145,7 +149,7 @@ impl Run {
         }
     }
 
-    /// Matrices are within the cap, and every record keeps the rules.
+    /// Matrices are within the caps of their nodes, and every record keeps the rules.
     fn check_records(&self) {
         for seat in &self.list.seats {
             assert!(seat.record.keeps_rules() && seat.record.standing() <= seat.record.cap as usize);
@@ -195,9 +199,15 @@ impl Run {
     }
 }
 
+/// A cap for one of n nodes, often the least or the largest.
+fn any_cap(random: &mut Random, n: usize) -> usize {
+    let between = random.within(n, n * n);
+    random.pick(&[n, n, n * n, between])
+}
+
 #[test]
 fn lists_keep_their_promises() {
-    let (mut delivered, mut extras, mut unsaid, mut counts) = (0, 0, 0, Vec::new());
+    let (mut delivered, mut extras, mut unsaid, mut beyond, mut counts) = (0, 0, 0, 0, Vec::new());
     for seed in 0..100 {
         let mut run = Run::start(seed);
         for step in 0..600 {
@@ -215,12 +225,30 @@ fn lists_keep_their_promises() {
         run.check_rights();
         counts.push(run.counts());
         unsaid += run.unsaid;
+        beyond += run.beyond;
         delivered += run.list.issued.len();
         extras += (0..run.list.issued.len()).filter(|issue| run.list.frame(*issue).kind() != USER).count();
     }
     assert!(delivered > 10_000 && extras > 1_000 && unsaid > 1_000, "{delivered} {extras} {unsaid}");
     let counts: Counts = counts.into_iter().sum();
     assert_eq!((counts.sent + extras, counts.delivered + extras, counts.extras()), (delivered, delivered, extras));
-    assert!(counts.extras_of_sends > 0 && counts.several > 100, "{counts:?}");
+    assert!(counts.extras_of_sends > 0 && counts.several > 100 && beyond > 100, "{counts:?}, {beyond}");
     println!("{delivered} frames delivered, {extras} of them extras, {unsaid} sends refused with 21");
+    println!("{beyond} frames held that carry more entries than their node's cap");
+}
+
+#[test]
+fn a_list_has_a_cap_in_range_for_each_node() {
+    let refused: [&[usize]; 8] = [&[], &[1], &[13; 13], &[2, 3, 3], &[3, 2, 3], &[3, 3, 10], &[2, 5], &[0; 2]];
+    for caps in refused {
+        assert_eq!(List::start(caps).err(), Some(1), "{caps:?}");
+    }
+    let taken: [&[usize]; 4] = [&[2, 4], &[3, 9, 4], &[12; 12], &[144; 12]];
+    for caps in taken {
+        let list = List::start(caps).unwrap();
+        let records: Vec<_> = list.seats.iter().map(|seat| (seat.record.me, seat.record.n)).collect();
+        let expected: Vec<_> = (0..caps.len()).map(|me| (me as u8, caps.len() as u8)).collect();
+        assert_eq!((list.caps(), records), (caps.to_vec(), expected));
+    }
+    assert_eq!([0, 1, 13].map(|n| List::alike(n, n).err()), [Some(1); 3]);
 }

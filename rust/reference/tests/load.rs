@@ -208,10 +208,10 @@ fn issues(output: &str) -> usize {
     output.lines().filter(|line| line.starts_with(['S', 'X'])).count()
 }
 
-/// What the yard prints for the same steps under one cap.
+/// What the yard prints for the same steps under one cap for all nodes.
 fn yard_output(n: usize, cap: usize, seed: u32, draws: usize) -> String {
     let run = |input: &str| String::from_utf8(yard(input.as_bytes())).unwrap();
-    let mut input = format!("{n} {cap}\n");
+    let mut input = format!("{n}{}\n", format!(" {cap}").repeat(n));
     for draw in Xorshift::new(seed).take(draws) {
         input.extend(drawn(draw as usize, n, issues(&run(&input))).map(yard_line));
     }
@@ -275,7 +275,7 @@ fn sends_and_delivers(seed: u32) -> usize {
 
 /// How many delivers answer none in a load of 400 draws with 4 nodes and cap 4: a plant makes its steps.
 fn nones(seed: u32) -> usize {
-    let mut plant = Plant::start(4, 4, ISSUES).unwrap();
+    let mut plant = Plant::start(&[4; 4], ISSUES).unwrap();
     let mut count = 0;
     for draw in Xorshift::new(seed).take(400) {
         match drawn(draw as usize, 4, plant.list.issued.len()) {

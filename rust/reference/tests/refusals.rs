@@ -152,7 +152,7 @@ fn check_4_takes_checks_8_to_14() {
     assert_eq!(with_frame(bad_sum), 4);
     assert_eq!(with_change(&|_| ()), 0);
     assert_eq!(with_change(&|draft| draft.kind = 3), 4);
-    assert_eq!(with_change(&|draft| draft.cap = 6), 4);
+    assert_eq!([2, 3, 9, 10].map(|cap| with_change(&|draft| draft.cap = cap)), [4, 0, 0, 4]);
     assert_eq!(with_change(&|draft| draft.body = vec![0; 65]), 4);
     assert_eq!(with_change(&|draft| draft.to = 2), 4);
     assert_eq!(with_change(&|draft| draft.set(1, 2, 2)), 4);
@@ -232,7 +232,8 @@ fn checks_9_and_10() {
     assert_eq!(changed(|draft| draft.zero = 1), 9);
     assert_eq!(changed(|draft| (draft.kind, draft.n) = (3, 4)), 9);
     assert_eq!([2, 3, 4].map(|n| changed(|draft| draft.n = n)), [10, 0, 10]);
-    assert_eq!([4, 5, 6].map(|cap| changed(|draft| draft.cap = cap)), [10, 0, 10]);
+    let caps = [0, 1, 2, 3, 4, 5, 6, 9, 10, 12, 255];
+    assert_eq!(caps.map(|cap| changed(|draft| draft.cap = cap)), [10, 10, 10, 0, 0, 0, 0, 0, 10, 10, 10]);
     assert_eq!([0, 1, 3, 255].map(|from| changed(|draft| draft.from = from)), [0, 10, 10, 10]);
     assert_eq!([0, 1, 2, 3, 255].map(|to| changed(|draft| draft.to = to)), [10, 0, 12, 10, 10]);
 }
@@ -250,15 +251,45 @@ fn check_11_lengths() {
     }
 }
 
+/// The numbers for a frame with this cap and so many entries: of its offer to a node of four with another cap, and of a
+/// deliver there where it is held.
+fn carried(receiver: usize, cap: u8, count: usize) -> [u8; 2] {
+    let places = [(0, 1, 1), (0, 2, 1), (0, 3, 1), (2, 1, 1), (2, 3, 1), (3, 1, 1), (3, 2, 1)];
+    let frame = draft(USER, 0, 1, 4, cap, &places[..count], &[]).bytes();
+    let (held, shelf) = holding(fresh(1, 4, receiver), std::slice::from_ref(&frame));
+    [offer_number(fresh(1, 4, receiver), &frame, &empty_shelf()), deliver_number(held, &shelf, 2048, 64)]
+}
+
 #[test]
-fn check_11_entry_count() {
-    let record = with(1, 4, 4, &[], &[]);
-    let places = [(0, 1, 1), (0, 2, 1), (0, 3, 1), (2, 1, 1), (2, 3, 1)];
-    let number = |count: usize| {
-        let frame = draft(USER, 0, 1, 4, 4, &places[..count], &[]).bytes();
-        offer_number(record, &frame, &empty_shelf())
+fn check_11_entry_count_is_held_to_the_frames_own_cap() {
+    for receiver in [4, 5, 6, 16] {
+        for cap in 4..=6 {
+            assert_eq!(carried(receiver, cap, cap as usize), [0, 0], "cap {cap} to {receiver}");
+            assert_eq!(carried(receiver, cap, cap as usize + 1), [11, 4], "cap {cap} to {receiver}");
+        }
+        assert_eq!([3, 4, 16, 17].map(|cap| carried(receiver, cap, 3)), [[10, 4], [0, 0], [0, 0], [10, 4]]);
+        // 10 stands in front of 11.
+        assert_eq!([3, 17].map(|cap| carried(receiver, cap, 4)), [[10, 4]; 2]);
+    }
+}
+
+#[test]
+fn trim_is_by_the_nodes_own_cap() {
+    // Seven entries of the frame's cap 7, of which four are not in column 1.
+    let places = [(0, 1, 1), (0, 2, 1), (0, 3, 1), (2, 1, 1), (2, 3, 1), (3, 1, 1), (3, 2, 1)];
+    let frame = draft(USER, 0, 1, 4, 7, &places, &[]).bytes();
+    let delivered = |cap, kept: &[(usize, usize, u32)]| {
+        let record = with(1, 4, cap, kept, &[(2, 1), (3, 1), (0, 1)]);
+        let (record, mut shelf) = holding(record, std::slice::from_ref(&frame));
+        match deliver(record, &mut shelf, &mut [0; 2048], &mut [0; 64]) {
+            (DeliverAnswer::Delivered(delivery), after) => (delivery.extras, delivery.bytes, after.standing()),
+            other => panic!("{other:?}"),
+        }
     };
-    assert_eq!([number(4), number(5)], [0, 11]);
+    assert_eq!(delivered(4, &[]), (0, 0, 4));
+    assert_eq!([4, 5, 16].map(|cap| delivered(cap, &[(1, 0, 1)])), [(1, 24, 4), (0, 0, 5), (0, 0, 5)]);
+    let five = [(1, 0, 1), (1, 2, 1), (2, 0, 1), (3, 0, 1), (1, 3, 1)];
+    assert_eq!([5, 8, 9].map(|cap| delivered(cap, &five)), [(2, 60, 5), (1, 30, 7), (0, 0, 9)]);
 }
 
 #[test]

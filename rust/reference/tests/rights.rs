@@ -104,7 +104,7 @@ fn a_table_goes_class_by_class_with_four_groups_each() {
 
 #[test]
 fn both_sides_of_21_in_a_list_and_at_a_host() {
-    boundary::who_may_say_what(&mut List::start(2, 2).unwrap());
+    boundary::who_may_say_what(&mut List::alike(2, 2).unwrap());
     let met = |wanted| boundary::sends_by_class().iter().filter(|case| case.number == wanted).count();
     assert_eq!([6, 7].map(met), [3, 3]);
     assert_eq!([21, 0].map(met), [104 + 1, 32 + 2]);
@@ -178,7 +178,7 @@ fn the_class_is_no_part_of_the_frame() {
 
 #[test]
 fn a_refused_step_of_a_list_changes_nothing() {
-    let mut list = List::start(3, 3).unwrap();
+    let mut list = List::alike(3, 3).unwrap();
     list.send(0, 1, 1, b"O");
     let before = list.clone();
     for (class, body) in [(0, &b"O"[..]), (3, &[0]), (4, &[]), (usize::MAX, &[255])] {
@@ -189,7 +189,7 @@ fn a_refused_step_of_a_list_changes_nothing() {
 
 /// A list of panels whose last delivery issues an extra, with its history.
 fn panels() -> (List, History) {
-    let (mut list, mut history) = (List::start(3, 3).unwrap(), History::start(3, 3));
+    let (mut list, mut history) = (List::alike(3, 3).unwrap(), History::start(&[3; 3]));
     for (issue, (i, j)) in [(0, 1), (0, 2), (1, 2), (1, 0), (2, 1), (2, 0)].into_iter().enumerate() {
         let body = [200 + issue as u8, 0];
         assert!(matches!(list.send(i, j, 3, &body), SendAnswer::Sent { extras: 0, .. }));

@@ -241,10 +241,11 @@ fn body_and_entry_count() {
     assert_eq!(body, [true, true, false, false]);
     let with_body = |body: &[u8]| is_taken(&draft(EXTRA, 0, 1, 3, 5, &[(0, 1, 3)], body).bytes());
     assert_eq!([with_body(&[]), with_body(&[1])], [true, false]);
-    assert_eq!([2, 3, 4].map(|cap| is_taken_changed(|draft| draft.cap = cap)), [false, true, true]);
+    let caps = [0, 2, 3, 4, 9, 10, 255].map(|cap| is_taken_changed(|draft| draft.cap = cap));
+    assert_eq!(caps, [false, false, true, true, true, false, false]);
     let places = [(0, 1, 1), (0, 2, 1), (0, 3, 1), (2, 1, 1), (2, 3, 1)];
-    let count = |count| is_taken(&draft(USER, 0, 1, 4, 4, &places[..count], &[]).bytes());
-    assert_eq!([count(4), count(5)], [true, false]);
+    let count = |cap, count| is_taken(&draft(USER, 0, 1, 4, cap, &places[..count], &[]).bytes());
+    assert_eq!([count(4, 4), count(4, 5), count(5, 5), count(16, 5)], [true, false, true, true]);
     for (index, byte) in [(3, 2), (3, 4), (4, 3), (4, 5), (3, 255), (4, 255)] {
         let mut bytes = draft(USER, 0, 1, 3, 5, &[(0, 1, 3), (0, 2, 6), (1, 2, 1)], b"body").bytes();
         bytes[index] = byte;

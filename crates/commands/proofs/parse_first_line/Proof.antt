@@ -1,55 +1,24 @@
--- Two pieces are found, one after the other. Assumes nothing.
-use mathlib.Core.Path.{_∙_, sym}
-use native.Mathlib.Nat.{sub-zero}
-use native.Mathlib.Omega.{arith}
+-- The first piece is n, and the caps stand behind it. Assumes nothing.
+use mathlib.Core.Path.{_∙_}
 use borrow.Author.Needs.{needs}
-use Rattle.commands.proofs.Parts.{firstLine-bare, firstLine-more, firstLine-two}
+use Rattle.commands.proofs.Caps.{firstLine-found}
 use Rattle.commands.proofs.parse_first_line.Statement.{statement}
 use Rattle.commands.proofs.parse_first_line.Tie as tie
 
 find-requires : tie.Need-find-requires
 find-requires c κs = search needs
 
-returns : tie.Need-returns
-returns c = sym (firstLine-bare _ _ (c .before .find .ensures .0) (c .if1 .taken))
-
-add-i : tie.Need-add-i
-add-i c = search needs
-
-find-requires-2 : tie.Need-find-requires-2
-find-requires-2 c κs = search needs
-
-returns-2 : tie.Need-returns-2
-returns-2 c = sym (firstLine-more _ _ _ (c .before .before .before .find .ensures .0) (search needs) (c .before .find2 .ensures .0) (c .if2 .taken))
-
 field-requires : tie.Need-field-requires
 field-requires c κs = search needs
 
-field-requires-2 : tie.Need-field-requires-2
-field-requires-2 c κs = search needs
+with-caps-requires : tie.Need-with-caps-requires
+with-caps-requires c κs = search needs
 
-sizes-requires : tie.Need-sizes-requires
-sizes-requires c κs = search needs
-
-returns-3 : tie.Need-returns-3
-returns-3 c =
-    let f = c .before .before .before .before in
-    c .sizes .ensures ∙ rw (
-      c .before .before .field .ensures,
-      c .before .field2 .ensures,
-      sub-zero,
-    ) (sym (firstLine-two _ _ _ (f .before .before .find .ensures .0) (search needs) (f .find2 .ensures .0) (omega arith)))
+returns : tie.Need-returns
+returns c =
+    let g = c .before in
+    c .with-caps .ensures ∙ rw (g .field .ensures) (firstLine-found _ _ (g .before .find .ensures .0) (g .before .find .ensures .1))
 
 pub parse-first-line-spec : {M : Type 1} → statement M
 parse-first-line-spec =
-    tie.close
-    (tie.spec
-    find-requires
-    returns
-    add-i
-    find-requires-2
-    returns-2
-    field-requires
-    field-requires-2
-    sizes-requires
-    returns-3)
+    tie.close (tie.spec find-requires field-requires with-caps-requires returns)

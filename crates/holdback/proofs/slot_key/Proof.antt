@@ -21,12 +21,12 @@ use Rattle.wire.specs.Limits.{maxFrame}
 use Rattle.holdback.proofs.slot_key.Statement.{statement}
 use Rattle.holdback.proofs.slot_key.Tie as tie
 
--- the slot and the node of the arguments
+-- the slot, and the node of the arguments with any cap
 abbrev slot : tie.Start → List ℕ
 slot a = a .args .slot .now
 
-abbrev node : tie.Start → Node
-node a = nodeWith (a .args .me) (a .args .n) (a .args .cap) (a .args .m .now) (a .args .deliv .now) []
+abbrev node : tie.Start → ℕ → Node
+node a cap = nodeWith (a .args .me) (a .args .n) cap (a .args .m .now) (a .args .deliv .now) []
 
 abbrev start : tie.Else2 → tie.Start
 start c = c .before .before .before .before .before .before .before
@@ -42,15 +42,15 @@ fits c =
     sym (length-take-le (c .before .own-length .result) (slot a) h)
 
 -- 8 to 11 are tested on the frame
-told : (c : tie.After-refusal) → c .refusal .result ≡ frameRefusal (node (c .before .before .before .before .before .before) .n)
-    (node (c .before .before .before .before .before .before) .cap) (frameIn (slot (c .before .before .before .before .before .before)))
+told : (c : tie.After-refusal) → c .refusal .result ≡ frameRefusal (c .before .before .before .before .before .before .args .n)
+    (frameIn (slot (c .before .before .before .before .before .before)))
 told c =
     let o = c .before .before .before in
     let a = o .before .before .before in
-    c .refusal .ensures ∙ ap (frameRefusal (node a .n) (node a .cap)) (slot-part (slot a) (o .own-length .result) (own o))
+    c .refusal .ensures ∙ ap (frameRefusal (a .args .n)) (slot-part (slot a) (o .own-length .result) (own o))
 
 -- once they are passed
-sound : (c : tie.Else2) → frameRefusal (node (start c) .n) (node (start c) .cap) (frameIn (slot (start c))) ≡ 0
+sound : (c : tie.Else2) → frameRefusal (start c .args .n) (frameIn (slot (start c))) ≡ 0
 sound c = sym (told (c .before)) ∙ c .if2 .left
 
 part : (c : tie.Else2) → take (c .before .before .before .before .own-length .result) (slot (start c)) ≡ frameIn (slot (start c))
@@ -60,15 +60,15 @@ short : (c : tie.Else2) → ownLength (header (slot (start c))) ≤ maxFrame
 short c = let i = c .before .before .before in omega (arith, own (i .before), i .if1 .left)
 
 checked : (c : tie.Else2) → CheckedFrame (take (c .before .before .before .before .own-length .result) (slot (start c)))
-checked c = rw (part c) (record { n = node (start c) .n; cap = node (start c) .cap; few = start c .pre .1; passes = sound c })
+checked c = rw (part c) (record { n = start c .args .n; few = start c .pre .1; passes = sound c })
 
 -- 12 to 14, and the zeros behind the frame
-arrived : (c : tie.After-refusal2)
-    → c .refusal2 .result ≡ arrivalRefusal (node (start (c .before .before))) (decode (frameIn (slot (start (c .before .before)))))
-arrived c =
+arrived : (c : tie.After-refusal2) (cap : ℕ)
+    → c .refusal2 .result ≡ arrivalRefusal (node (start (c .before .before)) cap) (decode (frameIn (slot (start (c .before .before)))))
+arrived c cap =
     let e = c .before .before in
-    let d = node (start e) in
-    c .refusal2 .ensures (d .n) (d .cap) [] ∙ ap (λ (s : List ℕ). arrivalRefusal d (decode s)) (part e)
+    let d = node (start e) cap in
+    c .refusal2 .ensures (d .n) cap [] ∙ ap (λ (s : List ℕ). arrivalRefusal d (decode s)) (part e)
 
 behind : (c : tie.After-all-zero) → c .all-zero .result
     ≡ allZero (drop (ownLength (header (slot (start (c .before .before .before .before .before))))) (slot (start (c .before .before .before .before .before))))
@@ -85,7 +85,7 @@ own-length-requires c κs = search needs
 returns : tie.Need-returns
 returns c =
     let a = c .before .before .before .before in
-    sym (key-long (node a) (slot a) (a .pre .0) (omega (arith, own (c .before), c .if1 .taken)))
+    λ cap. sym (key-long (node a cap) (slot a) (a .pre .0) (omega (arith, own (c .before), c .if1 .taken)))
 
 slice-aggregate-refusal : tie.Need-slice-aggregate-refusal
 slice-aggregate-refusal c = fits (c .before)
@@ -96,7 +96,7 @@ refusal-requires c κs = search needs
 returns-2 : tie.Need-returns-2
 returns-2 c =
     let a = c .before .before .before .before .before .before .before in
-    sym (key-refused (node a) (slot a) (a .pre .0) (λ e. c .if2 .taken (told (c .before) ∙ e)))
+    λ cap. sym (key-refused (node a cap) (slot a) (a .pre .0) (λ e. c .if2 .taken (told (c .before) ∙ e)))
 
 slice-aggregate-refusal-2 : tie.Need-slice-aggregate-refusal-2
 slice-aggregate-refusal-2 c = fits (c .before .before .before .before)
@@ -108,7 +108,7 @@ returns-3 : tie.Need-returns-3
 returns-3 c =
     let e = c .before .before .before in
     let a = start e in
-    sym (key-arrival (node a) (slot a) (a .pre .0) (sound e) (λ z. c .if3 .taken (arrived (c .before) ∙ z)))
+    λ cap. sym (key-arrival (node a cap) (slot a) (a .pre .0) (sound e) (λ z. c .if3 .taken (arrived (c .before) cap ∙ z)))
 
 sub-all-zero : tie.Need-sub-all-zero
 sub-all-zero c = search needs
@@ -127,7 +127,7 @@ returns-4 c =
     let t = c .before .before .before in
     let e = t .before .before .before in
     let a = start e in
-    sym (key-padding (node a) (slot a) (a .pre .0) (short e) (sound e) (sym (arrived (t .before)) ∙ t .if3 .left)
+    λ cap. sym (key-padding (node a cap) (slot a) (a .pre .0) (short e) (sound e) (sym (arrived (t .before) cap) ∙ t .if3 .left)
     (denied _ _ (behind (c .before)) (c .if4 .taken)))
 
 slice-aggregate-number : tie.Need-slice-aggregate-number
@@ -155,8 +155,8 @@ returns-5 c =
     let e = t .before .before .before in
     let a = start e in
     let n = c .before .number .ensures ∙ ap (λ (s : List ℕ). number (decode s)) (part e) in
-    key-parts (slot a) _ (c .before .number .result) (a .pre .0) (e .before .before .before .before .before .read .ensures) n
-    ∙ sym (key-right (node a) (slot a) (a .pre .0) (short e) (sound e) (sym (arrived (t .before)) ∙ t .if3 .left)
+    λ cap. key-parts (slot a) _ (c .before .number .result) (a .pre .0) (e .before .before .before .before .before .read .ensures) n
+    ∙ sym (key-right (node a cap) (slot a) (a .pre .0) (short e) (sound e) (sym (arrived (t .before) cap) ∙ t .if3 .left)
     (passed _ _ (behind (z .before)) (z .if4 .left)))
 
 pub slot-key-spec : {M : Type 1} → statement M

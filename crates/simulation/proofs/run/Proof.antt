@@ -5,7 +5,7 @@ use native.Mathlib.Omega.{arith}
 use lib.Seq.{length-take-le}
 use Rattle.text.proofs.Print.{run-short, run-written}
 use Rattle.simulation.specs.Run.{runCall}
-use Rattle.simulation.proofs.Runs.{output-first, output-long, output-none, output-other}
+use Rattle.simulation.proofs.Runs.{output-long, output-none, output-other, output-sizes}
 use borrow.Author.Needs.{needs}
 use Rattle.simulation.proofs.run.Statement.{statement}
 use Rattle.simulation.proofs.run.Tie as tie
@@ -51,8 +51,8 @@ slice-aggregate-parse-first-line c = sym (length-take-le _ _ (c .before .before 
 parse-first-line-requires : tie.Need-parse-first-line-requires
 parse-first-line-requires c κs = search needs
 
-enum-known-first : tie.Need-enum-known-first
-enum-known-first c = search needs
+enum-known-form : tie.Need-enum-known-form
+enum-known-form c = search needs
 
 add-run-sizes : tie.Need-add-run-sizes
 add-run-sizes c = search needs
@@ -72,11 +72,12 @@ same-length-3 c = search needs
 returns-4 : tie.Need-returns-4
 unfolding runCall
 returns-4 c =
-    let w = c .before .before .before .before .before .before .before .before .before .before in
+    let f = c .before .before .before .before .before .before in
+    let w = f .before .before .before .before .before in
     let r = c .before .before .run-sizes .ensures in
-    let e = sym (c .before .before .before .before .before .before .before .parse-first-line .ensures)
-    ∙ c .before .before .before .before .before .first .given .1 in (
-      run-written _ _ _ (omega arith) _ (output-first _ (omega arith) _ (w .find .ensures .0) (omega (arith, w .find .ensures .1)) _ e) _ _ (r .1 .0) (r .1 .1),
+    let e = sym (f .before .before .parse-first-line .ensures) in (
+      run-written _ _ _ (omega arith) _ (output-sizes _ (omega arith) _ (w .find .ensures .0) (omega (arith, w .find .ensures .1)) _ e _
+          (f .form .given .1)) _ _ (r .1 .0) (r .1 .1),
       r .0,
     )
 
@@ -88,8 +89,9 @@ unfolding runCall
 returns-5 c =
     let w = c .before .before .before .before .before .before .before .before .before in
     let r = c .before .before .put-refusal3 .ensures in
-    let e = sym (c .before .before .before .before .before .before .parse-first-line .ensures) ∙ c .before .before .before .before .enum-told .given .1 in (
-      run-written _ _ _ (omega arith) _ (output-other _ (omega arith) _ (w .find .ensures .0) (omega (arith, w .find .ensures .1)) e) _ _
+    let e = sym (c .before .before .before .before .before .before .parse-first-line .ensures) in (
+      run-written _ _ _ (omega arith) _ (output-other _ (omega arith) _ (w .find .ensures .0) (omega (arith, w .find .ensures .1)) _ e
+          (c .before .before .before .before .enum-told .given .1)) _ _
           (r .1 .0 ∙ zero-add _) (r .1 .1),
       omega (arith, r .0),
     )
@@ -108,7 +110,7 @@ run-spec =
     returns-3
     slice-aggregate-parse-first-line
     parse-first-line-requires
-    enum-known-first
+    enum-known-form
     add-run-sizes
     run-sizes-requires
     enum-told

@@ -19,7 +19,7 @@ Inv-loop input from queues₀ log₀ out₀ yard₀ pos₀ at₀ end₀ queues l
     (at ≤ length input) × (end ≡ at + before 10 (drop at input)) × (end ≤ length input) × (length queues ≡ length queues₀)
     × (length log ≡ length log₀) × (length out ≡ length out₀)
     × (pos ≤ 5 * at + 17 * yard .world .issued)
-    × ((n cap : ℕ) → Holds n cap maxIssues 0 (start n cap) (yard₀ .world) queues₀ log₀ → Running n cap input from out₀ yard queues log out at pos)
+    × ((n : ℕ) (caps : ℕ → ℕ) → Holds n caps maxIssues 0 (start n caps) (yard₀ .world) queues₀ log₀ → Running n caps input from out₀ yard queues log out at pos)
 
 abbrev μ-loop : tie.MeasureT-loop
 μ-loop input from queues₀ log₀ out₀ yard₀ pos₀ at₀ end₀ queues log out yard pos at end = length input - at
@@ -39,15 +39,15 @@ loop-holds c = (
   refl,
   refl,
   omega arith,
-  λ n cap h. running-starts n cap _ _ _ _ _ _ h (c .before .no-counters .ensures),
+  λ n caps h. running-starts n caps _ _ _ _ _ _ h (c .before .no-counters .ensures),
 )
 
--- the yard at a turn of the loop, for some n and cap
+-- the yard at a turn of the loop, for some n and caps
 turn : (c : tie.At-loop Inv-loop μ-loop) → let p = c .before .before .before .before .before .before .before .pre .0 in
-    Running (p .n) (p .cap) (c .before .before .before .before .before .before .before .args .input .now)
+    Running (p .n) (p .caps) (c .before .before .before .before .before .before .before .args .input .now)
     (c .before .before .before .before .before .before .before .args .from) (c .before .before .before .before .before .before .before .args .out .now)
     (c .loop .yard) (c .loop .queues) (c .loop .log) (c .loop .out) (c .loop .at) (c .loop .pos)
-turn c = let p = c .before .before .before .before .before .before .before .pre .0 in c .loop .inv .7 (p .n) (p .cap) (p .holds)
+turn c = let p = c .before .before .before .before .before .before .before .pre .0 in c .loop .inv .7 (p .n) (p .caps) (p .holds)
 
 sub-take : tie.Need-sub-take Inv-loop μ-loop
 sub-take c = omega (arith, c .before .loop .inv .1)
@@ -91,9 +91,9 @@ loop-again c =
       t .kept .1 .1 .1 .0 ∙ w .loop .inv .4,
       t .kept .1 .1 .1 .1 .0 ∙ w .loop .inv .5,
       omega (arith, t .ensures .0, long, w .loop .inv .1, w .loop .inv .6),
-      λ n cap h.
-          let r = w .loop .inv .7 n cap h in
-          running-goes n cap _ _ _ _ _ _ _ _ _ _ r (w .loop .inv .1) (omega arith) _ _ _ _ (t .ensures .1 n cap (r .steps) (r .yard)
+      λ n caps h.
+          let r = w .loop .inv .7 n caps h in
+          running-goes n caps _ _ _ _ _ _ _ _ _ _ r (w .loop .inv .1) (omega arith) _ _ _ _ (t .ensures .1 n caps (r .steps) (r .yard)
           (omega (arith, r .few, w .loop .inv .0, w .before .before .before .before .before .before .before .pre .2)) (r .stands)),
     )
 
@@ -124,7 +124,7 @@ returns c =
     let w = c .before .before .before .before .before .before in
     let r = c .before .before .put-ending .ensures in (
       omega (arith, r .0, room-left (c .before .before .before .before .before)),
-      λ n cap h. running-ends n cap _ _ _ _ _ _ _ _ _ (w .loop .end) (w .loop .inv .7 n cap h) (w .loop .inv .1) (omega (arith, w .loop .inv .2))
+      λ n caps h. running-ends n caps _ _ _ _ _ _ _ _ _ (w .loop .end) (w .loop .inv .7 n caps h) (w .loop .inv .1) (omega (arith, w .loop .inv .2))
           (w .loop .inv .0) _ refl _ _ (r .1 .0) (r .1 .1),
     )
 

@@ -44,7 +44,7 @@ run-lines-requires c κs =
     let p = c .before .before .before .before .before .before .before .before .pre in (
       record {
         n = _;
-        cap = _;
+        caps = _;
         holds =
             stored-start _ _ (passed _ _ (c .before .before .before .before .before .startable .ensures) (c .before .before .before .before .if1 .left)) _
             (c .before .before .before .fresh .ensures) 51328 53376 refl refl;

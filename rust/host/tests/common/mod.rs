@@ -34,9 +34,15 @@ fn sealed_by(mut bytes: Vec<u8>, times: fn(usize) -> usize) -> Vec<u8> {
     bytes
 }
 
-/// The nodes of a plant, each set up once.
+/// The nodes of a plant, each set up once, with one cap for all.
 pub fn plant(n: usize, cap: usize) -> Vec<Node> {
-    (0..n).map(|me| Node::set_up(me, n, cap).expect("n and cap are in range")).collect()
+    plant_with(&vec![cap; n])
+}
+
+/// The nodes of a plant, each set up once, with a cap for each.
+pub fn plant_with(caps: &[usize]) -> Vec<Node> {
+    let node = |(me, cap): (usize, &usize)| Node::set_up(me, caps.len(), *cap).expect("n and the caps are in range");
+    caps.iter().enumerate().map(node).collect()
 }
 
 /// A class that may send the body, by its topic.

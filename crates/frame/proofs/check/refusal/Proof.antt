@@ -26,7 +26,7 @@ returns-2 : tie.Need-returns-2
 returns-2 c =
     let r = c .before .before in
     let t = sym (r .before .before .wrong-trailer .ensures) ∙ r .before .if1 .left in
-    sym (refusal-9 _ _ _ _ (r .read .ensures) t (sym (c .before .wrong-kind .ensures) ∙ c .if2 .taken))
+    sym (refusal-9 _ _ _ (r .read .ensures) t (sym (c .before .wrong-kind .ensures) ∙ c .if2 .taken))
 
 wrong-address-requires : tie.Need-wrong-address-requires
 wrong-address-requires c κs = search needs
@@ -36,7 +36,7 @@ returns-3 c =
     let k = c .before .before in
     let r = k .before .before in
     let t = sym (r .before .before .wrong-trailer .ensures) ∙ r .before .if1 .left in
-    sym (refusal-10 _ _ _ _ (r .read .ensures) t (sym (k .before .wrong-kind .ensures) ∙ k .if2 .left)
+    sym (refusal-10 _ _ _ (r .read .ensures) t (sym (k .before .wrong-kind .ensures) ∙ k .if2 .left)
     (sym (c .before .wrong-address .ensures) ∙ c .if3 .taken))
 
 wrong-content-requires : tie.Need-wrong-content-requires
@@ -51,7 +51,7 @@ returns-4 c =
     let k = a .before .before in
     let r = k .before .before in
     let t = sym (r .before .before .wrong-trailer .ensures) ∙ r .before .if1 .left in
-    sym (refusal-11 _ _ _ _ (r .read .ensures) t (sym (k .before .wrong-kind .ensures) ∙ k .if2 .left) (sym (a .before .wrong-address .ensures) ∙ a .if3 .left)
+    sym (refusal-11 _ _ _ (r .read .ensures) t (sym (k .before .wrong-kind .ensures) ∙ k .if2 .left) (sym (a .before .wrong-address .ensures) ∙ a .if3 .left)
     (sym (c .before .wrong-content .ensures) ∙ c .if4 .taken))
 
 returns-5 : tie.Need-returns-5
@@ -60,7 +60,7 @@ returns-5 c =
     let k = a .before .before in
     let r = k .before .before in
     let t = sym (r .before .before .wrong-trailer .ensures) ∙ r .before .if1 .left in
-    sym (refusal-none _ _ _ _ (r .read .ensures) t (sym (k .before .wrong-kind .ensures) ∙ k .if2 .left)
+    sym (refusal-none _ _ _ (r .read .ensures) t (sym (k .before .wrong-kind .ensures) ∙ k .if2 .left)
     (sym (a .before .wrong-address .ensures) ∙ a .if3 .left) (sym (c .before .wrong-content .ensures) ∙ c .if4 .left))
 
 pub refusal-spec : {M : Type 1} → statement M

@@ -26,7 +26,7 @@ sub-if1 c = search needs
 returns : tie.Need-returns
 returns c =
     let s = c .before .before .before .before in
-    sym (content-count _ _ _ _ (s .pre .0) (s .pre .2) (c .if1 .taken))
+    sym (content-count _ _ _ (s .pre .0) (s .pre .2) (c .if1 .taken))
 
 wrong-body-requires : tie.Need-wrong-body-requires
 wrong-body-requires c κs = search needs
@@ -35,14 +35,14 @@ returns-2 : tie.Need-returns-2
 returns-2 c =
     let b = c .before .before in
     let s = b .before .before .before .before in
-    sym (content-body _ _ _ _ (s .pre .0) (s .pre .2) (b .if1 .left) (sym (c .before .wrong-body .ensures) ∙ c .if2 .taken))
+    sym (content-body _ _ _ (s .pre .0) (s .pre .2) (b .if1 .left) (sym (c .before .wrong-body .ensures) ∙ c .if2 .taken))
 
 returns-3 : tie.Need-returns-3
 returns-3 c =
     let d = c .before .before in
     let b = d .before .before in
     let s = b .before .before .before .before in
-    sym (content-cap _ _ _ _ (s .pre .0) (s .pre .2) (b .if1 .left) (sym (d .before .wrong-body .ensures) ∙ d .if2 .left) (c .if3 .taken))
+    sym (content-cap _ _ _ (s .pre .0) (s .pre .2) (b .if1 .left) (sym (d .before .wrong-body .ensures) ∙ d .if2 .left) (c .if3 .taken))
 
 wrong-entries-requires : tie.Need-wrong-entries-requires
 wrong-entries-requires c κs = search needs
@@ -54,7 +54,7 @@ returns-4 c =
     let b = d .before .before in
     let s = b .before .before .before .before in
     c .wrong-entries .ensures
-    ∙ sym (content-left _ _ _ _ (s .pre .0) (s .pre .2) (b .if1 .left) (sym (d .before .wrong-body .ensures) ∙ d .if2 .left) (f .if3 .left))
+    ∙ sym (content-left _ _ _ (s .pre .0) (s .pre .2) (b .if1 .left) (sym (d .before .wrong-body .ensures) ∙ d .if2 .left) (f .if3 .left))
 
 pub wrong-content-spec : {M : Type 1} → statement M
 wrong-content-spec =

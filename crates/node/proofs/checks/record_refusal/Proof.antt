@@ -39,7 +39,7 @@ returns-4 c =
     let e = c .before .before in
     let b = e .before .before in
     sym (record-4 _ _ _ (sym (b .before .broken .ensures) ∙ b .if1 .left) (e .before .if2 .left) (e .if3 .left)
-    (sym (c .before .wrong-queue .ensures) ∙ c .if4 .taken))
+    (sym (c .before .wrong-queue .ensures _) ∙ c .if4 .taken))
 
 returns-5 : tie.Need-returns-5
 unfolding brokenRecord
@@ -47,7 +47,7 @@ returns-5 c =
     let e = c .before .before in
     let b = e .before .before in
     sym (record-0 _ _ _ (sym (b .before .broken .ensures) ∙ b .if1 .left) (e .before .if2 .left) (e .if3 .left)
-    (sym (c .before .wrong-queue .ensures) ∙ c .if4 .left))
+    (sym (c .before .wrong-queue .ensures _) ∙ c .if4 .left))
 
 pub record-refusal-spec : {M : Type 1} → statement M
 record-refusal-spec =

@@ -26,7 +26,7 @@ kept : (c : tie.Else1) → RecordPassed (here (start c)) (start c .args .queue .
 kept c = record-passed _ _ _ _ (sym (c .before .record-refusal .ensures) ∙ c .if1 .left)
 
 -- the frame is sound once its checks are passed
-sound : (c : tie.Else2) → (let a = start (passed c) .args in frameRefusal (a .n) (a .cap) (a .frame .now) ≡ 0)
+sound : (c : tie.Else2) → (let a = start (passed c) .args in frameRefusal (a .n) (a .frame .now) ≡ 0)
 sound c = sym (c .before .refusal .ensures) ∙ c .if2 .left
 
 record-refusal-requires : tie.Need-record-refusal-requires
@@ -47,7 +47,7 @@ hold-refusal-requires : tie.Need-hold-refusal-requires
 hold-refusal-requires c κs =
     let s = start (passed c) in (
       checked-queue (here s) (s .args .queue .now) (s .args .short) (kept (passed c)),
-      record { n = s .args .n; cap = s .args .cap; few = kept (passed c) .sound .range .atMost12; passes = sound c },
+      record { n = s .args .n; few = kept (passed c) .sound .range .atMost12; passes = sound c },
     )
 
 returns-3 : tie.Need-returns-3

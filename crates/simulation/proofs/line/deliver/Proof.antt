@@ -17,7 +17,7 @@ conclude-requires c κs =
     let a = s .before .before .before .before .before .before .before in
     let p = a .pre in
     let d = p .1 in
-    let t = s .deliver .ensures .1 (d .n) (d .cap) (d .k) (d .world) (d .more) (d .holds) in
+    let t = s .deliver .ensures .1 (d .n) (d .caps) (d .k) (d .world) (d .more) (d .holds) in
     let f = deliver-facts (d .world) (d .n) maxIssues (a .args .j) (omega (arith, d .holds .below)) (p .0) in (
       few-as _ _ (t .0) (deliver-few (d .world) (d .n) maxIssues (a .args .j)),
       s .deliver .ensures .0,
@@ -42,12 +42,12 @@ returns c =
     let a = s .before .before .before .before .before .before .before in
     let p = a .pre in
     let d = p .1 in
-    let t = s .deliver .ensures .1 (d .n) (d .cap) (d .k) (d .world) (d .more) (d .holds) in
+    let t = s .deliver .ensures .1 (d .n) (d .caps) (d .k) (d .world) (d .more) (d .holds) in
     let r = c .before .before .conclude .ensures in (
       bounded _ _ _ _ _ _ _ (d .holds) _ _ (deliver-facts (d .world) (d .n) maxIssues (a .args .j) (omega (arith, d .holds .below)) (p .0)) _ _ _ t
           (c .before .before .conclude .result) _ (r .0) (r .2),
-      λ n cap k z short st. took-step n cap k z _ _ _ _ (st .world) (st .counters) _ _ (deliver-facts (z .world) n maxIssues (a .args .j)
-          (omega (arith, st .world .below)) (p .0)) _ _ _ (s .deliver .ensures .1 n cap k (z .world) short (st .world)) _ _ _ _ (r .0) (r .1) (r .3),
+      λ n caps k z short st. took-step n caps k z _ _ _ _ (st .world) (st .counters) _ _ (deliver-facts (z .world) n maxIssues (a .args .j)
+          (omega (arith, st .world .below)) (p .0)) _ _ _ (s .deliver .ensures .1 n caps k (z .world) short (st .world)) _ _ _ _ (r .0) (r .1) (r .3),
     )
 
 pub deliver-spec : {M : Type 1} → statement M

@@ -16,7 +16,7 @@ conclude-requires c κs =
     let a = s .before .before .before .before .before in
     let p = a .pre in
     let d = p .0 .1 in
-    let t = s .send .ensures .1 (d .n) (d .cap) (d .k) (d .world) (p .0 .0) (d .more) (d .holds) in
+    let t = s .send .ensures .1 (d .n) (d .caps) (d .k) (d .world) (p .0 .0) (d .more) (d .holds) in
     let f = send-facts (d .world) (a .args .i) (d .n) maxIssues (a .args .i) (a .args .j) in (
       few-as _ _ (t .0) (send-few (d .world) (d .n) maxIssues (a .args .i) (a .args .j)),
       s .send .ensures .0,
@@ -38,12 +38,12 @@ returns c =
     let a = s .before .before .before .before .before in
     let p = a .pre in
     let d = p .0 .1 in
-    let t = s .send .ensures .1 (d .n) (d .cap) (d .k) (d .world) (p .0 .0) (d .more) (d .holds) in
+    let t = s .send .ensures .1 (d .n) (d .caps) (d .k) (d .world) (p .0 .0) (d .more) (d .holds) in
     let r = c .before .before .conclude .ensures in (
       bounded _ _ _ _ _ _ _ (d .holds) _ _ (send-facts (d .world) (a .args .i) (d .n) maxIssues (a .args .i) (a .args .j)) _ _ _ t
           (c .before .before .conclude .result) _ (r .0) (r .2),
-      λ n cap k z q short st. took-step n cap k z _ _ q _ (st .world) (st .counters) _ _ (send-facts (z .world) (a .args .i) n maxIssues (a .args .i)
-          (a .args .j)) _ _ _ (s .send .ensures .1 n cap k (z .world) q short (st .world)) _ _ _ _ (r .0) (r .1) (r .3),
+      λ n caps k z q short st. took-step n caps k z _ _ q _ (st .world) (st .counters) _ _ (send-facts (z .world) (a .args .i) n maxIssues (a .args .i)
+          (a .args .j)) _ _ _ (s .send .ensures .1 n caps k (z .world) q short (st .world)) _ _ _ _ (r .0) (r .1) (r .3),
     )
 
 pub send-spec : {M : Type 1} → statement M

@@ -14,7 +14,7 @@ use Rattle.sweep.proofs.draw.run_draws.Tie as tie
 abbrev Inv-loop : tie.InvT-loop
 Inv-loop seed count queues₀ log₀ t₀ w₀ v₀ i₀ queues log t w v i =
     (i ≤ count) × (length queues ≡ length queues₀) × (length log ≡ length log₀)
-    × ((n cap : ℕ) → Holds n cap maxIssues 0 (start n cap) w₀ queues₀ log₀ → Drawing n cap seed count w t v i queues log)
+    × ((n : ℕ) (caps : ℕ → ℕ) → Holds n caps maxIssues 0 (start n caps) w₀ queues₀ log₀ → Drawing n caps seed count w t v i queues log)
 
 abbrev μ-loop : tie.MeasureT-loop
 μ-loop seed count queues₀ log₀ t₀ w₀ v₀ i₀ queues log t w v i = count - i
@@ -23,7 +23,7 @@ no-counters-requires : tie.Need-no-counters-requires Inv-loop μ-loop
 no-counters-requires c κs = search needs
 
 loop-holds : tie.Need-loop-holds Inv-loop μ-loop
-loop-holds c = (omega arith, refl, refl, λ n cap h. drawing-starts n cap _ _ _ _ _ _ h (c .no-counters .ensures))
+loop-holds c = (omega arith, refl, refl, λ n caps h. drawing-starts n caps _ _ _ _ _ _ h (c .no-counters .ensures))
 
 next-requires : tie.Need-next-requires Inv-loop μ-loop
 next-requires c κs = search needs
@@ -32,7 +32,7 @@ step-requires : tie.Need-step-requires Inv-loop μ-loop
 step-requires c κs =
     let w = c .before .before .before .before in
     let p = c .before .before .before .before .before .before .before .before .pre in
-    drawing-standing _ _ _ _ _ _ _ _ _ _ (w .loop .inv .3 (p .0 .n) (p .0 .cap) (p .0 .holds)) (omega (arith, w .loop .inv .0, p .1))
+    drawing-standing _ _ _ _ _ _ _ _ _ _ (w .loop .inv .3 (p .0 .n) (p .0 .caps) (p .0 .holds)) (omega (arith, w .loop .inv .0, p .1))
 
 counted-requires : tie.Need-counted-requires Inv-loop μ-loop
 counted-requires c κs = c .before .before .before .before .step .ensures .1
@@ -57,9 +57,9 @@ loop-again c =
       omega (arith, more),
       s .kept .1 .1 .0 ∙ w .loop .inv .1,
       s .kept .1 .1 .1 .0 ∙ w .loop .inv .2,
-      λ n cap h. drawing-goes n cap _ _ _ _ _ _ _ _ (w .loop .inv .3 n cap h) (omega (arith, more)) _ _ _ _ _ _
+      λ n caps h. drawing-goes n caps _ _ _ _ _ _ _ _ (w .loop .inv .3 n caps h) (omega (arith, more)) _ _ _ _ _ _
           (c .before .before .before .before .before .before .before .before .before .next .ensures) (c .before .counted .ensures)
-          (λ z k. s .ensures .2 n cap (w .loop .i) z (omega (
+          (λ z k. s .ensures .2 n caps (w .loop .i) z (omega (
             arith,
             w .loop .inv .0,
             c .before .before .before .before .before .before .before .before .before .before .before .before .before .before .before .pre .1,
@@ -73,7 +73,7 @@ same-length-2 : tie.Need-same-length-2 Inv-loop μ-loop
 same-length-2 c = c .before .loop .inv .2
 
 returns : tie.Need-returns Inv-loop μ-loop
-returns c = let w = c .before in λ n cap h. drawing-ends n cap _ _ _ _ _ _ _ _ (w .loop .inv .3 n cap h) (omega (arith, w .loop .inv .0))
+returns c = let w = c .before in λ n caps h. drawing-ends n caps _ _ _ _ _ _ _ _ (w .loop .inv .3 n caps h) (omega (arith, w .loop .inv .0))
 
 pub run-draws-spec : {M : Type 1} → statement M
 run-draws-spec =

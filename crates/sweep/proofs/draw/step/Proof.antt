@@ -40,12 +40,12 @@ returns : tie.Need-returns
 returns c =
     let x = c .before .before .before .before .before .before .before .before .before .before .pre in
     let u = c .before .before .send .ensures in
-    let t = u .1 (x .n) (x .cap) (x .k) (x .world) _ (x .more) (x .holds) in (
+    let t = u .1 (x .n) (x .caps) (x .k) (x .world) _ (x .more) (x .holds) in (
       u .0,
       few-as _ _ (t .0) (send-few (x .world) (x .n) maxIssues _ _),
-      λ n cap k z short h. send-stored n cap k z _ _ _ h _ _ (c .before .before .before .before .before .before .before .step-of .ensures) _ _
+      λ n caps k z short h. send-stored n caps k z _ _ _ h _ _ (c .before .before .before .before .before .before .before .step-of .ensures) _ _
           (c .before .before .before .before .before .d .given .1) _ _ _ _
-          (u .1 n cap k (z .world) _ short h),
+          (u .1 n caps k (z .world) _ short h),
     )
 
 same-length-2 : tie.Need-same-length-2
@@ -58,12 +58,12 @@ returns-2 : tie.Need-returns-2
 returns-2 c =
     let x = c .before .before .before .before .before .before .before .before .before .before .before .pre in
     let u = c .before .before .offer .ensures in
-    let t = u .1 (x .n) (x .cap) (x .k) (x .world) (x .more) (x .holds) in (
+    let t = u .1 (x .n) (x .caps) (x .k) (x .world) (x .more) (x .holds) in (
       u .0,
       few-as _ _ (t .0) (offer-few (x .world) _),
-      λ n cap k z short h. offer-stored n cap k z _ _ _ h _ _ (c .before .before .before .before .before .before .before .before .step-of .ensures) _
+      λ n caps k z short h. offer-stored n caps k z _ _ _ h _ _ (c .before .before .before .before .before .before .before .before .step-of .ensures) _
           (c .before .before .before .before .before .before .d2 .given .1) _ _ _ _
-          (u .1 n cap k (z .world) short h),
+          (u .1 n caps k (z .world) short h),
     )
 
 same-length-4 : tie.Need-same-length-4
@@ -76,12 +76,12 @@ returns-3 : tie.Need-returns-3
 returns-3 c =
     let x = c .before .before .before .before .before .before .before .before .before .before .before .before .before .pre in
     let u = c .before .before .before .before .deliver .ensures in
-    let t = u .1 (x .n) (x .cap) (x .k) (x .world) (x .more) (x .holds) in (
+    let t = u .1 (x .n) (x .caps) (x .k) (x .world) (x .more) (x .holds) in (
       u .0,
       few-as _ _ (t .0) (deliver-few (x .world) (x .n) maxIssues _),
-      λ n cap k z short h. deliver-stored n cap k z _ _ _ h _ _ (c .before .before .before .before .before .before .before .before .before .before .step-of
+      λ n caps k z short h. deliver-stored n caps k z _ _ _ h _ _ (c .before .before .before .before .before .before .before .before .before .before .step-of
           .ensures) _ (c .before .before .before .before .before .before .before .before .d3 .given .1) _ _ _ _
-          (u .1 n cap k (z .world) short h),
+          (u .1 n caps k (z .world) short h),
     )
 
 returns-4 : tie.Need-returns-4
@@ -89,7 +89,7 @@ returns-4 c =
     let u = c .unchanged .ensures in (
       u .1,
       few-as _ _ (u .0) tt,
-      λ n cap k z short h. nothing-stored n cap k z _ _ _ h _ _ (c .before .before .before .step-of .ensures) (c .before .enum-told .given .1) _ _ (u .0)
+      λ n caps k z short h. nothing-stored n caps k z _ _ _ h _ _ (c .before .before .before .step-of .ensures) (c .before .enum-told .given .1) _ _ (u .0)
           (u .2),
     )
 

@@ -1,11 +1,36 @@
--- The start is stored, and the draws follow. Assumes nothing.
-use mathlib.Core.Path.{refl}
+-- The start is stored, every node with this cap, and the draws follow. Assumes nothing.
+use Prim.Native.Nat.{_*_, _<_, _≤_, suc, zero, ℕ}
+use mathlib.Core.List.{List}
+use mathlib.Core.Path.{_≡_, refl}
 use native.Mathlib.Omega.{arith}
+use lib.ListN.{length, replicate}
+use Rattle.causality.specs.Demand3.{start}
 use Rattle.counting.proofs.Lists.{stored-start}
 use Rattle.sweep.specs.Load.{maxIssues}
+use Rattle.world.specs.Start.{capOf}
+use Rattle.world.specs.Stored.{Holds, fresh, logSize}
+use Rattle.world.specs.declared.World.{World}
 use borrow.Author.Needs.{needs}
 use Rattle.sweep.proofs.table.run_cap.Statement.{statement}
 use Rattle.sweep.proofs.table.run_cap.Tie as tie
+
+-- the caps of at most four nodes that all have this one
+same-cap : (n cap : ℕ) → n ≤ 4 → (i : ℕ) → i < n → capOf (replicate 4 cap) i ≡ cap
+same-cap n cap l zero h = refl
+same-cap n cap l (suc zero) h = refl
+same-cap n cap l (suc (suc zero)) h = refl
+same-cap n cap l (suc (suc (suc zero))) h = refl
+same-cap n cap l (suc (suc (suc (suc i)))) h = absurd (omega arith)
+
+-- such nodes at their start
+started : (n cap : ℕ) → 2 ≤ n → n ≤ 4 → n ≤ cap → cap ≤ n * n → (w : World) → w ≡ fresh n (replicate 4 cap) → (l : List ℕ) → length l ≡ logSize maxIssues
+    → Holds n (λ i. cap) maxIssues 0 (start n (λ i. cap)) w (replicate 51328 0) l
+started n cap two four from to w e l s =
+    stored-start n (λ i. cap) (replicate 4 cap) maxIssues (record {
+      least = two;
+      few = four;
+      range = λ i h. record { atLeast2 = two; atMost12 = omega arith; capFrom = from; capTo = to };
+    }) (same-cap n cap four) w e 51328 refl l s
 
 fresh-requires : tie.Need-fresh-requires
 fresh-requires c κs = search needs
@@ -17,14 +42,7 @@ run-draws-requires : tie.Need-run-draws-requires
 run-draws-requires c κs =
     let a = c .before .before .before .before in
     let p = a .pre in (
-      record {
-        n = a .args .n;
-        cap = a .args .cap;
-        holds = stored-start _ _ maxIssues (record {
-          few = p .1;
-          range = record { atLeast2 = p .0; atMost12 = omega (arith, p .1); capFrom = p .2; capTo = p .3 };
-        }) _ (c .before .before .fresh .ensures) 51328 refl _ (p .5);
-      },
+      record { n = _; caps = _; holds = started (a .args .n) (a .args .cap) (p .0) (p .1) (p .2) (p .3) _ (c .before .before .fresh .ensures) _ (p .5) },
       p .4,
     )
 
@@ -33,11 +51,10 @@ same-length c = search needs
 
 returns : tie.Need-returns
 returns c =
-    let p = c .before .before .before .before .before .before .before .before .pre in
-    c .before .before .before .run-draws .ensures _ _ (stored-start _ _ maxIssues (record {
-      few = p .1;
-      range = record { atLeast2 = p .0; atMost12 = omega (arith, p .1); capFrom = p .2; capTo = p .3 };
-    }) _ (c .before .before .before .before .before .before .fresh .ensures) 51328 refl _ (p .5))
+    let a = c .before .before .before .before .before .before .before .before in
+    let p = a .pre in
+    c .before .before .before .run-draws .ensures _ _
+    (started (a .args .n) (a .args .cap) (p .0) (p .1) (p .2) (p .3) _ (c .before .before .before .before .before .before .fresh .ensures) _ (p .5))
 
 pub run-cap-spec : {M : Type 1} → statement M
 run-cap-spec =

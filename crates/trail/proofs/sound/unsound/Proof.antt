@@ -1,4 +1,4 @@
--- Fewer than 12 bytes are no frame; else n and cap are read from them, and the tests are the definition's. Assumes nothing.
+-- Fewer than 12 bytes are no frame; else n is read from them, and the tests are the definition's. Assumes nothing.
 use mathlib.Core.Path.{sym}
 use borrow.Author.Needs.{needs}
 use Rattle.frame.specs.Header.{header}
@@ -13,9 +13,6 @@ returns c = sym (short-unsound _ (c .if1 .taken))
 
 shared-slice-read-n : tie.Need-shared-slice-read-n
 shared-slice-read-n c = search needs
-
-shared-slice-read-cap : tie.Need-shared-slice-read-cap
-shared-slice-read-cap c = search needs
 
 in-own-range-requires : tie.Need-in-own-range-requires
 in-own-range-requires c κs = search needs
@@ -37,7 +34,6 @@ unsound-spec =
     (tie.spec
     returns
     shared-slice-read-n
-    shared-slice-read-cap
     in-own-range-requires
     returns-2
     refusal-requires

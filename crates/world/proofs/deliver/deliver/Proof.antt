@@ -23,14 +23,14 @@ use Rattle.world.proofs.store.store.Reads as store-reads
 use Rattle.world.proofs.store.unchanged.Reads as unchanged-reads
 
 -- the issues that are left, for any world that is stored
-left : (c : tie.After-known-told3) (n cap k : ℕ) (v : World) → Holds n cap
+left : (c : tie.After-known-told3) (n : ℕ) (caps : ℕ → ℕ) (k : ℕ) (v : World) → Holds n caps
     (c .before .before .before .before .before .before .before .before .before .before .before .before .before .before .before .before .args .limit) k v
     (c .before .before .before .before .before .before .before .before .before .before .before .before .before .before .before .before .args .t1)
     (c .before .before .before .before .before .before .before .before .before .before .before .before .before .before .before .before .args .queues .now)
     (c .before .before .before .before .before .before .before .before .before .before .before .before .before .before .before .before .args .log .now)
     → length (v .log) + n
     ≤ c .before .before .before .before .before .before .before .before .before .before .before .before .before .before .before .before .args .limit
-left c n cap k v h =
+left c n caps k v h =
     omega (arith, c .before .before .before .before .before .before .before .before .before .before .before .before .if2 .left, h .nodes, h .issued)
 
 -- what the delivery leaves, for the world that is asked for
@@ -39,7 +39,7 @@ few : (c : tie.After-known-told3) → c .before .answer3 .given .0 .0 .extras
 unfolding zeros
 few c =
     let x = c .before .before .before .before .before .before .before .before .before .before .before .before .before .before .before .before .pre .1 in
-    delivered-few (x .n) (x .cap) _ (x .k) (x .world) _ _ _ (x .holds) (x .more) _ (omega (arith, x .holds .nodes)) (left c _ _ _ _ (x .holds)) _ refl _
+    delivered-few (x .n) (x .caps) _ (x .k) (x .world) _ _ _ (x .holds) (x .more) _ (omega (arith, x .holds .nodes)) (left c _ _ _ _ (x .holds)) _ refl _
     (wide (c .before .before .before .before .before .before .before .before .before .before .before .before .before .before .before .before .args .at)) _ _ _ _
     (c .before .before .before .before .before .before .before .deliver .ensures) (search needs) _ (c .before .answer3 .given .1)
 
@@ -50,8 +50,8 @@ returns : tie.Need-returns
 returns c =
     let u = c .unchanged .ensures in (
       u .1,
-      λ n cap k v short h. as-stored n cap _ (k + 1) _ _ _ _ _ _ _ _ (u .0) (u .2)
-          (deliver-17 n cap _ k v _ _ _ h short _ (stops-node n _ _ v (omega (arith, h .nodes)))),
+      λ n caps k v short h. as-stored n caps _ (k + 1) _ _ _ _ _ _ _ _ (u .0) (u .2)
+          (deliver-17 n caps _ k v _ _ _ h short _ (stops-node n _ _ v (omega (arith, h .nodes)))),
     )
 
 add-if2 : tie.Need-add-if2
@@ -64,8 +64,8 @@ returns-2 : tie.Need-returns-2
 returns-2 c =
     let u = c .unchanged2 .ensures in (
       u .1,
-      λ n cap k v short h. as-stored n cap _ (k + 1) _ _ _ _ _ _ _ _ (u .0) (u .2)
-          (deliver-17 n cap _ k v _ _ _ h short _ (stops-issues n _ _ v (omega (arith, h .nodes, h .issued)) (omega (arith, h .range .atLeast2)))),
+      λ n caps k v short h. as-stored n caps _ (k + 1) _ _ _ _ _ _ _ _ (u .0) (u .2)
+          (deliver-17 n caps _ k v _ _ _ h short _ (stops-issues n _ _ v (omega (arith, h .nodes, h .issued)) (omega (arith, h .least)))),
     )
 
 mul-record : tie.Need-mul-record
@@ -110,14 +110,14 @@ enum-known-answer-3 c = search needs
 find-requires : tie.Need-find-requires
 find-requires c κs =
     let x = c .before .before .before .before .before .before .before .before .before .before .before .before .before .before .before .before .before .pre .1 in
-    begins-with (x .n) (x .cap) _ (x .k) (x .world) _ _ _ (x .holds) (omega (arith, x .more)) _ (omega (arith, x .holds .issued))
+    begins-with (x .n) (x .caps) _ (x .k) (x .world) _ _ _ (x .holds) (omega (arith, x .more)) _ (omega (arith, x .holds .issued))
 
 array-share-prefix-out : tie.Need-array-share-prefix-out
 unfolding zeros
 array-share-prefix-out c =
     let x = c .before .before .before .before .before .before .before .before .before .before .before .before .before .before .before .before .before .before
     .before .pre .1 in
-    delivered-inside (x .n) (x .cap) _ (x .k) (x .world) _ _ _ (x .holds) (x .more) _ (omega (
+    delivered-inside (x .n) (x .caps) _ (x .k) (x .world) _ _ _ (x .holds) (x .more) _ (omega (
       arith,
       x .holds .nodes,
       c .before .before .before .before .before .before .before .before .before .before .before .before .before .before .before .before .if1 .left,
@@ -131,7 +131,7 @@ unfolding zeros
 slice-aggregate-store c =
     let x = c .before .before .before .before .before .before .before .before .before .before .before .before .before .before .before .before .before .before
     .before .before .pre .1 in
-    sym (length-take-le _ _ (delivered-inside (x .n) (x .cap) _ (x .k) (x .world) _ _ _ (x .holds) (x .more) _ (omega (
+    sym (length-take-le _ _ (delivered-inside (x .n) (x .caps) _ (x .k) (x .world) _ _ _ (x .holds) (x .more) _ (omega (
       arith,
       x .holds .nodes,
       c .before .before .before .before .before .before .before .before .before .before .before .before .before .before .before .before .before .if1 .left,
@@ -153,7 +153,7 @@ store-requires c κs =
         left (c .before .before .before .before) _ _ _ _ (x .holds),
         x .holds .issued,
       ),
-      delivered-room (x .n) (x .cap) _ (x .k) (x .world) _ _ _ (x .holds) (x .more) _ (omega (
+      delivered-room (x .n) (x .caps) _ (x .k) (x .world) _ _ _ (x .holds) (x .more) _ (omega (
         arith,
         x .holds .nodes,
         c .before .before .before .before .before .before .before .before .before .before .before .before .before .before .before .before .before .if1 .left,
@@ -177,7 +177,7 @@ unfolding zeros
 returns-3 c =
     let u = c .unchanged3 .ensures in (
       u .1,
-      λ n cap k v short h. as-stored n cap _ (k + 1) _ _ _ _ _ _ _ _ (u .0) (u .2) (deliver-refused n cap _ k v _ _ _ h short _
+      λ n caps k v short h. as-stored n caps _ (k + 1) _ _ _ _ _ _ _ _ (u .0) (u .2) (deliver-refused n caps _ k v _ _ _ h short _
           (omega (
             arith,
             h .nodes,
@@ -201,7 +201,7 @@ unfolding zeros
 returns-4 c =
     let u = c .unchanged4 .ensures in (
       u .1,
-      λ n cap k v short h. as-stored n cap _ (k + 1) _ _ _ _ _ _ _ _ (u .0) (u .2) (deliver-nothing n cap _ k v _ _ _ h short _
+      λ n caps k v short h. as-stored n caps _ (k + 1) _ _ _ _ _ _ _ _ (u .0) (u .2) (deliver-nothing n caps _ k v _ _ _ h short _
           (omega (
             arith,
             h .nodes,
@@ -237,7 +237,7 @@ returns-5 c =
         c .before .before .before .before .before .before .before .before .before .before .before .before
             .before .before .before .before .before .before .before .before .if1 .left,
       ),
-      λ n cap k v short h. as-stored n cap _ (k + 1) _ _ _ _ _ _ _ _ (e .0) (e .2) (deliver-frame n cap _ k v _ _ _ h short _
+      λ n caps k v short h. as-stored n caps _ (k + 1) _ _ _ _ _ _ _ _ (e .0) (e .2) (deliver-frame n caps _ k v _ _ _ h short _
           (omega (
             arith,
             h .nodes,

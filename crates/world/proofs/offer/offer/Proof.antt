@@ -26,12 +26,12 @@ use Rattle.world.proofs.log.skip.Reads as skip-reads
 use Rattle.world.proofs.store.unchanged.Reads as unchanged-reads
 
 -- the frame of the issue, in the log of any world that is stored
-part : (c : tie.After-frame-end) (n cap k : ℕ) (v : World)
-    → Holds n cap (c .before .before .before .before .before .before .args .limit) k v (c .before .before .before .before .before .before .args .t1)
+part : (c : tie.After-frame-end) (n : ℕ) (caps : ℕ → ℕ) (k : ℕ) (v : World)
+    → Holds n caps (c .before .before .before .before .before .before .args .limit) k v (c .before .before .before .before .before .before .args .t1)
     (c .before .before .before .before .before .before .args .queues .now) (c .before .before .before .before .before .before .args .log .now)
     → LogPart (frames (v .log)) (c .before .before .before .before .before .before .args .log .now)
     (c .before .before .before .before .before .before .args .issue - 1) (c .before .skip .result) (c .frame-end .result)
-part c n cap k v h =
+part c n caps k v h =
     let m = length-map (v .log) (λ (g : Issue). g .frame) in
     log-part (frames (v .log)) _ (c .before .before .before .before .before .before .args .issue - 1) (c .before .skip .result) (c .frame-end .result)
     (h .begins) (omega (arith, m, h .issued))
@@ -41,15 +41,15 @@ part c n cap k v h =
 here : (c : tie.After-frame-end)
     → LogPart (frames (c .before .before .before .before .before .before .pre .world .log)) (c .before .before .before .before .before .before .args .log .now)
     (c .before .before .before .before .before .before .args .issue - 1) (c .before .skip .result) (c .frame-end .result)
-here c = let x = c .before .before .before .before .before .before .pre in part c (x .n) (x .cap) (x .k) (x .world) (x .holds)
+here c = let x = c .before .before .before .before .before .before .pre in part c (x .n) (x .caps) (x .k) (x .world) (x .holds)
 
 -- its destination is read
-heads : (c : tie.After-read) (n cap k : ℕ) (v : World) → Holds n cap (c .before .before .before .before .before .before .before .before .args .limit) k v
+heads : (c : tie.After-read) (n : ℕ) (caps : ℕ → ℕ) (k : ℕ) (v : World) → Holds n caps (c .before .before .before .before .before .before .before .before .args .limit) k v
     (c .before .before .before .before .before .before .before .before .args .t1)
     (c .before .before .before .before .before .before .before .before .args .queues .now)
     (c .before .before .before .before .before .before .before .before .args .log .now)
     → c .read .result .to ≡ destination (getD (frames (v .log)) (c .before .before .before .before .before .before .before .before .args .issue - 1) [])
-heads c n cap k v h = ap (λ (x : Header). x .to) (c .read .ensures ∙ ap header (part (c .before .before) n cap k v h .same))
+heads c n caps k v h = ap (λ (x : Header). x .to) (c .read .ensures ∙ ap header (part (c .before .before) n caps k v h .same))
 
 below : (c : tie.After-read) → c .read .result .to < c .before .before .before .before .before .before .before .before .args .t1 .n
 below c =
@@ -57,8 +57,8 @@ below c =
     omega (
       arith,
       x .holds .nodes,
-      offer-to (x .n) (x .cap) _ (x .k) (x .world) _ _ _ (x .holds) (x .more) (c .before .before .before .before .before .before .before .before .args .issue)
-          (c .before .before .before .before .before .if1 .left) (omega (arith, x .holds .issued)) _ (heads c (x .n) (x .cap) (x .k) (x .world) (x .holds)),
+      offer-to (x .n) (x .caps) _ (x .k) (x .world) _ _ _ (x .holds) (x .more) (c .before .before .before .before .before .before .before .before .args .issue)
+          (c .before .before .before .before .before .if1 .left) (omega (arith, x .holds .issued)) _ (heads c (x .n) (x .caps) (x .k) (x .world) (x .holds)),
     )
 
 unchanged-requires : tie.Need-unchanged-requires
@@ -68,7 +68,7 @@ returns : tie.Need-returns
 returns c =
     let u = c .unchanged .ensures in (
       u .1,
-      λ n cap k v short h. as-stored n cap _ (k + 1) _ _ _ _ _ _ _ _ (u .0) (u .2) (offer-none n cap _ k v _ _ _ h short _ (c .before .if1 .taken)),
+      λ n caps k v short h. as-stored n caps _ (k + 1) _ _ _ _ _ _ _ _ (u .0) (u .2) (offer-none n caps _ k v _ _ _ h short _ (c .before .if1 .taken)),
     )
 
 unchanged-requires-2 : tie.Need-unchanged-requires-2
@@ -78,8 +78,8 @@ returns-2 : tie.Need-returns-2
 returns-2 c =
     let u = c .unchanged2 .ensures in (
       u .1,
-      λ n cap k v short h. as-stored n cap _ (k + 1) _ _ _ _ _ _ _ _ (u .0) (u .2)
-          (offer-past n cap _ k v _ _ _ h short _ (c .before .before .if1 .left) (omega (arith, h .issued))),
+      λ n caps k v short h. as-stored n caps _ (k + 1) _ _ _ _ _ _ _ _ (u .0) (u .2)
+          (offer-past n caps _ k v _ _ _ h short _ (c .before .before .if1 .left) (omega (arith, h .issued))),
     )
 
 sub-skip : tie.Need-sub-skip
@@ -88,7 +88,7 @@ sub-skip c = search needs
 skip-requires : tie.Need-skip-requires
 skip-requires c κs =
     let x = c .before .before .before .before .pre in
-    begins-with (x .n) (x .cap) _ (x .k) (x .world) _ _ _ (x .holds) (omega (arith, x .more)) _ (omega (arith, x .holds .issued))
+    begins-with (x .n) (x .caps) _ (x .k) (x .world) _ _ _ (x .holds) (omega (arith, x .more)) _ (omega (arith, x .holds .issued))
 
 frame-end-requires : tie.Need-frame-end-requires
 frame-end-requires c κs =
@@ -167,14 +167,14 @@ returns-3 : tie.Need-returns-3
 returns-3 c =
     let u = c .unchanged3 .ensures in (
       u .1,
-      λ n cap k v short h. as-stored n cap _ (k + 1) _ _ _ _ _ _ _ _ (u .0) (u .2) (offer-refused n cap _ k v _ _ _ h short _
+      λ n caps k v short h. as-stored n caps _ (k + 1) _ _ _ _ _ _ _ _ (u .0) (u .2) (offer-refused n caps _ k v _ _ _ h short _
           (c .before .before .before .before .before .before .before .before .before .before .before .before .before .before .before .before .if1 .left)
           (omega (
             arith,
             h .issued,
             c .before .before .before .before .before .before .before .before .before .before .before .before .before .before .before .if2 .left,
-          )) _ (heads (c .before .before .before .before .before .before .before .before .before .before .before) n cap k v h) _ refl _
-          (part (c .before .before .before .before .before .before .before .before .before .before .before .before .before) n cap k v h .same) _
+          )) _ (heads (c .before .before .before .before .before .before .before .before .before .before .before) n caps k v h) _ refl _
+          (part (c .before .before .before .before .before .before .before .before .before .before .before .before .before) n caps k v h .same) _
           (wide (c .before .before .before .before .before .before .before .before .before .before .before .read .result .to)) _ _
           (c .before .before .before .before .before .before .offer .ensures) (search needs) _ (c .before .before .answer .given .1)),
     )
@@ -188,10 +188,10 @@ returns-4 c =
     let x = c .before .before .before .before .before .before .before .before .before .before .before .before .before .before .before .before .before .before
     .before .pre in (
       omega (arith, x .holds .nodes, x .holds .few),
-      λ n cap k v short h. offer-held n cap _ k v _ _ _ h short _
+      λ n caps k v short h. offer-held n caps _ k v _ _ _ h short _
           (c .before .before .before .before .before .before .before .before .before .before .before .before .before .before .before .before .if1 .left)
-          (omega (arith, h .issued)) _ (heads (c .before .before .before .before .before .before .before .before .before .before .before) n cap k v h) _ refl _
-          (part (c .before .before .before .before .before .before .before .before .before .before .before .before .before) n cap k v h .same) _
+          (omega (arith, h .issued)) _ (heads (c .before .before .before .before .before .before .before .before .before .before .before) n caps k v h) _ refl _
+          (part (c .before .before .before .before .before .before .before .before .before .before .before .before .before) n caps k v h .same) _
           (wide (c .before .before .before .before .before .before .before .before .before .before .before .read .result .to)) _ _
           (c .before .before .before .before .before .before .offer .ensures) (search needs) _ _ (c .before .before .answer2 .given .1) _ refl,
     )

@@ -22,7 +22,7 @@ unfolding zeros
 few c =
     let d = c .before .before .before .before .before .before .before .before .before .before .before .pre .1 in
     let x = d .1 in
-    sent-few (x .n) (x .cap) _ (x .k) (x .world) _ (d .0) _ (x .holds) (x .more) _ _ (omega (arith, x .holds .nodes))
+    sent-few (x .n) (x .caps) _ (x .k) (x .world) _ (d .0) _ (x .holds) (x .more) _ _ (omega (arith, x .holds .nodes))
     (omega (arith, x .holds .nodes, x .holds .issued)) _ refl _ _ (c .before .before .before .before .send .ensures) _ _ (c .before .answer2 .given .1)
 
 inside : (c : tie.After-known-told2) → c .before .answer2 .given .0 .0 ≤ length (c .before .before .before .before .send .last .1 .1 .1 .1 .0)
@@ -30,7 +30,7 @@ unfolding zeros
 inside c =
     let d = c .before .before .before .before .before .before .before .before .before .before .before .pre .1 in
     let x = d .1 in
-    sent-inside (x .n) (x .cap) _ (x .k) (x .world) _ (d .0) _ (x .holds) (x .more) _ _ (omega (arith, x .holds .nodes))
+    sent-inside (x .n) (x .caps) _ (x .k) (x .world) _ (d .0) _ (x .holds) (x .more) _ _ (omega (arith, x .holds .nodes))
     (omega (arith, x .holds .nodes, x .holds .issued)) _ refl _ _ (c .before .before .before .before .send .ensures) _ _ (c .before .answer2 .given .1)
 
 room : (c : tie.After-known-told2) → c .before .before .before .before .before .before .before .before .before .before .before .args .t1 .end + length
@@ -40,7 +40,7 @@ unfolding zeros
 room c =
     let d = c .before .before .before .before .before .before .before .before .before .before .before .pre .1 in
     let x = d .1 in
-    sent-room (x .n) (x .cap) _ (x .k) (x .world) _ (d .0) _ (x .holds) (x .more) _ _ (omega (arith, x .holds .nodes))
+    sent-room (x .n) (x .caps) _ (x .k) (x .world) _ (d .0) _ (x .holds) (x .more) _ _ (omega (arith, x .holds .nodes))
     (omega (arith, x .holds .nodes, x .holds .issued)) _ refl _ _ (c .before .before .before .before .send .ensures) _ _ (c .before .answer2 .given .1)
 
 unchanged-requires : tie.Need-unchanged-requires
@@ -50,8 +50,8 @@ returns : tie.Need-returns
 returns c =
     let u = c .unchanged .ensures in (
       u .1,
-      λ n cap k v q short h. as-stored n cap _ (k + 1) _ _ _ _ _ _ q _ (u .0) (u .2)
-          (send-17 n cap _ k v _ q _ h short _ _ (stops-node n _ _ v (omega (arith, h .nodes)))),
+      λ n caps k v q short h. as-stored n caps _ (k + 1) _ _ _ _ _ _ q _ (u .0) (u .2)
+          (send-17 n caps _ k v _ q _ h short _ _ (stops-node n _ _ v (omega (arith, h .nodes)))),
     )
 
 add-if2 : tie.Need-add-if2
@@ -64,8 +64,8 @@ returns-2 : tie.Need-returns-2
 returns-2 c =
     let u = c .unchanged2 .ensures in (
       u .1,
-      λ n cap k v q short h. as-stored n cap _ (k + 1) _ _ _ _ _ _ q _ (u .0) (u .2)
-          (send-17 n cap _ k v _ q _ h short _ _ (stops-issues n _ _ v (omega (arith, h .nodes, h .issued)) (omega (arith, h .range .atLeast2)))),
+      λ n caps k v q short h. as-stored n caps _ (k + 1) _ _ _ _ _ _ q _ (u .0) (u .2)
+          (send-17 n caps _ k v _ q _ h short _ _ (stops-issues n _ _ v (omega (arith, h .nodes, h .issued)) (omega (arith, h .least)))),
     )
 
 mul-record : tie.Need-mul-record
@@ -116,8 +116,8 @@ unfolding zeros
 returns-3 c =
     let u = c .unchanged3 .ensures in (
       u .1,
-      λ n cap k v q short h. as-stored n cap _ (k + 1) _ _ _ _ _ _ q _ (u .0) (u .2)
-          (send-refused n cap _ k v _ q _ h short _ _ (omega (arith, h .nodes)) (omega (arith, h .nodes, h .issued)) _ refl _ _
+      λ n caps k v q short h. as-stored n caps _ (k + 1) _ _ _ _ _ _ q _ (u .0) (u .2)
+          (send-refused n caps _ k v _ q _ h short _ _ (omega (arith, h .nodes)) (omega (arith, h .nodes, h .issued)) _ refl _ _
           (c .before .before .before .before .before .send .ensures) _ (c .before .before .answer .given .1)),
     )
 
@@ -130,8 +130,8 @@ returns-4 c =
     let e = c .before .before .store .ensures in
     let x = c .before .before .before .before .before .before .before .before .before .before .before .before .before .before .before .before .pre .1 .1 in (
       omega (arith, e .1, x .holds .nodes, x .holds .few),
-      λ n cap k v q short h. as-stored n cap _ (k + 1) _ _ _ _ _ _ q _ (e .0) (e .2)
-          (send-sent n cap _ k v _ q _ h short _ _ (omega (arith, h .nodes))
+      λ n caps k v q short h. as-stored n caps _ (k + 1) _ _ _ _ _ _ q _ (e .0) (e .2)
+          (send-sent n caps _ k v _ q _ h short _ _ (omega (arith, h .nodes))
           (omega (arith, h .nodes, h .issued)) _ refl _ _ (c .before .before .before .before .before .before .before .before .before .send .ensures) _ _
           (c .before .before .before .before .before .before .answer2 .given .1) _ _ refl (e .3)),
     )
