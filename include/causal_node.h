@@ -97,7 +97,7 @@ enum {
     CAUSAL_REFUSED_NO_RIGHT = 21         /* the class is above 3, or has no right to the body's topic */
 };
 
-/* Writes the fresh image of node me of n (2 to 12) with this cap (n to n * n), once in a plant's time: 1, 20. */
+/* Writes the fresh image of node me of n (2 to 12) with this cap of its own (n to n * n), once in a plant's time: 1, 20. */
 uint8_t node_set_up(uint8_t *image, size_t image_length, size_t me, size_t n, size_t cap);
 
 /*

@@ -17,21 +17,23 @@ use Rattle.causality.proofs.Queues.{Bodies, frames-back, queue-length}
 use Rattle.causality.proofs.Records.{record-kept, recordOf}
 use Rattle.causality.specs.Demand3.{delivered}
 use Rattle.frame.specs.Frame.{encode}
+use Rattle.frame.specs.Frames.{framesOf}
 use Rattle.holdback.specs.WrongQueue.{wrongQueue}
 use Rattle.holdback.specs.Slots.{heldMessages, laid, queueSize, without}
 use Rattle.matrix.specs.Matrix.{Matrix, merge}
 use Rattle.matrix.specs.Message.{Kind, Message, extra, user}
-use Rattle.node.proofs.Told.{learn-room}
 use Rattle.node.specs.Answers.{AfterDeliver}
 use Rattle.node.specs.Calls.{acceptDeliver, deliverCall, refuseDeliver, refusal as refusalOf}
 use Rattle.node.specs.Sizes.{outSize}
 use Rattle.node.specs.Record.{brokenRecord, nodeOf}
-use Rattle.protocol.proofs.Bounds.{below-limit}
-use Rattle.protocol.proofs.Good.{Good}
+use Rattle.protocol.proofs.Bounds.{below-limit, entry-bound}
+use Rattle.protocol.proofs.Good.{Good, stateOf}
 use Rattle.protocol.proofs.Grown.{nodeAt}
 use Rattle.protocol.proofs.Lists.{at-none}
+use Rattle.protocol.proofs.Searching.{search-found}
 use Rattle.protocol.specs.Node.{atLimit, Node as MessageNode}
 use Rattle.protocol.specs.Offer.{deliverable}
+use Rattle.trim.proofs.Outputs.{delivery-bytes}
 use Rattle.wire.proofs.Bytes.{small-bytes}
 use Rattle.wire.proofs.Tests.{T-not-not, cond-no, cond-yes, decide, either-T, eq→eqb, le→nltb, not-or}
 use Rattle.wire.specs.Bytes.{AllBytes}
@@ -94,6 +96,17 @@ module _ (n : ℕ) (caps : ℕ → ℕ) (w : messages.World) (g : Good n caps w)
   settle out body o =
       cond (protocol.accepted (o .answer)) (acceptDeliver r q out body o (protocol.delivery (o .answer))) (refuseDeliver (refusalOf (o .answer)) r q out body)
 
+  -- what the delivery of a held message issues has room in 2,048 bytes
+  room : (h : ℕ) (m : Message) → getElem? (w .nodes i .held) h ≡ some m → length (framesOf ((learn (m .kind) d (m .entries)) .extras)) ≤ 846
+  room h m a =
+      let v = g .node i hi in
+      let o = v .queue .from h m a in
+      let s = g .sound (o .issue) (o .g) (o .logged) in
+      let here = ap (λ (x : Message). x .to) (o .message) ∙ v .queue .to h m a in
+      subst (λ (x : Message). length (framesOf ((learn (x .kind) d (x .entries)) .extras)) ≤ 846) (o .message)
+      (delivery-bytes d hi (g .range i hi .atMost12) (g .range i hi .capFrom) (v .rules) (v .few) (o .g .message .from) (o .g .message .entries) (s .from)
+      (λ z. s .apart (z ∙ sym here)) (s .rules) (λ y _. entry-bound (stateOf w) (g .invariant) (o .issue) (o .g) (o .logged) i y) (o .g .message .kind))
+
   settled : (out body : List ℕ) → outSize ≤ length out → (s : Search) → search (deliverable d) (w .nodes i .held) ≡ s
       → Left (conclude d s) (settle out body (conclude d s))
   settled out body h absent e = record {
@@ -106,11 +119,12 @@ module _ (n : ℕ) (caps : ℕ → ℕ) (w : messages.World) (g : Good n caps w)
   settled out body h (found k m others) e =
       let x = search-left (deliverable d) (w .nodes i .held) k m others e in
       let y : k - 1 ≡ x .0 = omega (arith, x .1) in
+      let z = search-found (deliverable d) (w .nodes i .held) k m others e in
       record {
         node = refl;
         queue = ap₂ (λ (z : ℕ) (l : List (List ℕ)). laid (without z l)) y (frames-back n caps w g few bodies i hi) ∙ ap laid (sym (x .2));
         answer = record { acceptance = refl; names = refl; taken = refl; given = refl; extras = refl; users = refl; expected = inl refl };
-        frames = issued-frames out ((learn (m .kind) d (m .entries)) .extras) (omega (arith, learn-room (m .kind) d (m .entries)));
+        frames = issued-frames out ((learn (m .kind) d (m .entries)) .extras) (omega (arith, room (z .0) m (z .2 .at)));
         bodies = λ p f a. subst AllBytes (sym (learn-bare (m .kind) d (m .entries) p f a)) (small-bytes [] tt);
       }
 

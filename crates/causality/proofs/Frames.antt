@@ -13,9 +13,7 @@ use Rattle.frame.specs.Frame.{encode, headerOf}
 use Rattle.frame.specs.Frames.{framesOf}
 use Rattle.frame.specs.Header.{header, ownLength}
 use Rattle.matrix.specs.Message.{Message}
-use Rattle.node.specs.Sizes.{outSize}
 use Rattle.wire.proofs.Bytes.{put-back}
-use Rattle.wire.specs.Limits.{maxFrame}
 use Rattle.wire.specs.Bytes.{put as write}
 
 -- a frame's own length
@@ -60,8 +58,3 @@ cut-nothing out = cut-none 0
 pub issued-frames : (out : List ℕ) (l : List Message) → length (framesOf l) ≤ length out
     → framesIn (take (length (framesOf l)) (write out 0 (framesOf l))) ≡ map encode l
 issued-frames out l h = ap framesIn (put-back out 0 (framesOf l) (omega arith)) ∙ cut-frames l
-
--- a send's frames fit 2,048 bytes
-pub send-room : (f : Message) → length (encode f) ≤ maxFrame → (l : List Message) → length (framesOf l) ≤ 1008 → length (framesOf (f ∷ l)) ≤ outSize
-unfolding framesOf
-send-room f h l r = omega (arith, length-append (encode f) (framesOf l))

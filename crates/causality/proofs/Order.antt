@@ -83,5 +83,6 @@ module _ (n : ℕ) (caps : ℕ → ℕ) (w : messages.World) (b : World) (g : Go
       (record {
         own = rw (from-encode (f .0 .message)) (cap-encode (f .0 .message) ∙ g .sound p (f .0) (f .1) .capped);
         e = rw (from-encode (f .0 .message), count-encode) (t .carried p (f .0) (f .1));
-        matrix = rw (from-encode (f .0 .message)) (subst (λ (z : Message). count (z .entries) ≤ caps (f .0 .message .from)) (sym (decode-encode (f .0 .message) (sound p (f .0) (f .1)))) (t .carried p (f .0) (f .1)));
+        matrix = rw (from-encode (f .0 .message)) (subst (λ (z : Message). count (z .entries) ≤ caps (f .0 .message .from))
+            (sym (decode-encode (f .0 .message) (sound p (f .0) (f .1)))) (t .carried p (f .0) (f .1)));
       })

@@ -2,23 +2,21 @@
 use Prim.Native.Nat.{_<_, _≤_, suc, zero, ℕ}
 use mathlib.Core.Bool.{Bool, _||_, cond, false, not}
 use mathlib.Core.List.{List, [], _∷_, map}
-use mathlib.Core.Logic.{_⊎_, inl, inr}
+use mathlib.Core.Logic.{_≢_, _⊎_, inl, inr}
 use mathlib.Core.Option.{some}
 use mathlib.Core.Path.{_∙_, _≡_, ap, refl, subst, sym}
 use native.Mathlib.Omega.{arith}
-use lib.Dec.{T, T-not, eqb, ltb, nltb→le}
+use lib.Dec.{T, T-not, eqb, ltb, ltb→lt, nltb→le}
 use lib.ListN.{getElem?, length}
-use Rattle.causality.proofs.Frames.{issued-frames, send-room}
+use Rattle.causality.proofs.Frames.{issued-frames}
 use Rattle.causality.proofs.Matches.{Agrees}
 use Rattle.causality.proofs.Queues.{Bodies}
 use Rattle.causality.proofs.Records.{node-back, record-kept, recordOf}
 use Rattle.causality.proofs.Refused.{SaysNo, refused-agrees}
 use Rattle.causality.specs.Demand3.{sent}
 use Rattle.causality.specs.ListRefusals.{Expected}
-use Rattle.frame.proofs.Written.{length-encode}
 use Rattle.frame.specs.Frame.{encode}
 use Rattle.holdback.specs.Slots.{laid}
-use Rattle.matrix.proofs.Bounds.{count-121}
 use Rattle.matrix.specs.Matrix.{clear}
 use Rattle.matrix.specs.Message.{Message}
 use Rattle.node.specs.Answers.{AfterSend}
@@ -34,10 +32,10 @@ use Rattle.protocol.specs.Send.{longBody, send, sending, sentMatrix, sentMessag
 use Rattle.rights.specs.Ours.{ours}
 use Rattle.rights.specs.Rights.{lacksRight}
 use Rattle.wire.proofs.Bytes.{small-bytes}
-use Rattle.trim.proofs.Bounds.{trim-bytes}
-use Rattle.wire.proofs.Tests.{cond-no, cond-yes, decide, is-false, le→nltb, or-T}
+use Rattle.trim.proofs.Outputs.{send-bytes}
+use Rattle.wire.proofs.Tests.{cond-no, cond-yes, decide, is-false, le→nltb, neqb→ne, not-not, or-T, or-not}
 use Rattle.wire.specs.Bytes.{AllBytes}
-use Rattle.wire.specs.Limits.{maxBody, maxFrame}
+use Rattle.wire.specs.Limits.{maxBody}
 use Rattle.protocol.specs.World as messages
 use Rattle.protocol.specs.Answer as protocol
 use Rattle.node.specs.declared.Node.{Node as Record}
@@ -73,7 +71,7 @@ module _ (n : ℕ) (caps : ℕ → ℕ) (w : messages.World) (g : Good n caps w)
   data Case (to : ℕ) (body : List ℕ) : Type 0 where
     refuses : (k : ℕ) → T (not (eqb k 0)) → Expected (sent (answer.Refused k))
         → ((l : List Message) → send (with-held l) to body ≡ protocol.refuse k (with-held l)) → Case to body
-    accepts : length body ≤ maxBody → ((l : List Message) → send (with-held l) to body ≡ sending (with-held l) to body) → Case to body
+    accepts : to < n → to ≢ i → length body ≤ maxBody → ((l : List Message) → send (with-held l) to body ≡ sending (with-held l) to body) → Case to body
 
   case : (to : ℕ) (body : List ℕ) → Case to body
   unfolding send
@@ -94,18 +92,10 @@ module _ (n : ℕ) (caps : ℕ → ℕ) (w : messages.World) (g : Good n caps w)
           ∙ cond-no (eqb to i || not (ltb to n)) (protocol.refuse 6 (with-held l)) (last l) a
           ∙ cond-yes (longBody body) (protocol.refuse 7 (with-held l)) (sending (with-held l) to body) b)
       go (inr a) (inr b) =
-          accepts (nltb→le maxBody (length body) b) (λ l. cond-no (atLimit (with-held l)) (protocol.refuse 5 (with-held l)) (rest l) (free l)
+          let t = or-not (eqb to i) (not (ltb to n)) a in
+          accepts (ltb→lt to n (not-not (ltb to n) (t .1))) (neqb→ne to i (t .0)) (nltb→le maxBody (length body) b) (λ l. cond-no (atLimit (with-held l)) (protocol.refuse 5 (with-held l)) (rest l) (free l)
           ∙ cond-no (eqb to i || not (ltb to n)) (protocol.refuse 6 (with-held l)) (last l) a
           ∙ cond-no (longBody body) (protocol.refuse 7 (with-held l)) (sending (with-held l) to body) b)
-
-  -- the user frame fits
-  user-fits : (to : ℕ) (body : List ℕ) → length body ≤ maxBody → length (encode (sentMessage d to body)) ≤ maxFrame
-  user-fits to body h =
-      omega (
-        arith,
-        length-encode (sentMessage d to body),
-        count-121 i (w .nodes i .matrix) (omega (arith, g .range i hi .atMost12)) (g .node i hi .rules .diagonal) (g .node i hi .rules .own),
-      )
 
   -- what a send leaves
   abbrev Left : protocol.Outcome → AfterSend → Type 0
@@ -143,7 +133,7 @@ module _ (n : ℕ) (caps : ℕ → ℕ) (w : messages.World) (g : Good n caps w)
         subst (λ (o : protocol.Outcome). Left o (settle (send (with-held []) to body))) (sym (e (w .nodes i .held)))
         (subst (λ (o : protocol.Outcome). Left (protocol.refuse k d) (settle o)) (sym (e []))
         (refused-agrees d k (sent (answer.Refused k)) out (says-no k t x)))
-    settled bytes long may (accepts fits e) =
+    settled bytes long may (accepts below other fits e) =
         subst (λ (o : protocol.Outcome). Left o (settle (send (with-held []) to body))) (sym (e (w .nodes i .held)))
         (subst (Left (sending d to body)) (sym (ap settle (e []) ∙ permitted))
         (record {
@@ -152,7 +142,7 @@ module _ (n : ℕ) (caps : ℕ → ℕ) (w : messages.World) (g : Good n caps w)
           answer = record { acceptance = refl; names = refl; taken = refl; given = refl; extras = refl; users = refl; expected = inl refl };
           frames = issued-frames out issues (omega (
             arith,
-            send-room (sentMessage d to body) (user-fits to body fits) extras (trim-bytes 12 i n (caps i) (clear i to (w .nodes i .matrix))),
+            send-bytes d hi (g .range i hi .atMost12) (g .range i hi .capFrom) (g .node i hi .rules) (g .node i hi .few) to body below other fits,
           ));
           bodies = all-bytes;
         }))
@@ -183,7 +173,7 @@ module _ (n : ℕ) (caps : ℕ → ℕ) (w : messages.World) (g : Good n caps w)
     -- where the class lacks the right, it is: with 21, unless an earlier check is met
     lacking : T (lacksRight ours class body) → Case to body → NotSent (settle (send (with-held []) to body))
     lacking l (refuses k t x e) = record { number = k; says = says-no k t x; same = ap settle (e []) }
-    lacking l (accepts fits e) = record {
+    lacking l (accepts below other fits e) = record {
       number = 21;
       says = says-no 21 tt (inr (inr (inr (inr (inl refl)))));
       same = ap settle (e []) ∙ cond-yes (lacksRight ours class body) (refuseSend 21 r out) (acceptSend r out (sending (with-held []) to body)) l;

@@ -20,4 +20,5 @@ AcceptedOnceFor w = (t u p : ℕ) (e f : Event) → getElem? (w .history) t ≡ 
 
 -- for the lists of demand 3
 abbrev pub AcceptedOnce : Type 0
-AcceptedOnce = (n : ℕ) (caps : ℕ → ℕ) → EachInRange n caps → (steps : List Step) → BodiesOfBytes steps → length steps < 1000000000 → AcceptedOnceFor (run n (start n caps) steps)
+AcceptedOnce = (n : ℕ) (caps : ℕ → ℕ) → EachInRange n caps → (steps : List Step) → BodiesOfBytes steps → length steps < 1000000000
+    → AcceptedOnceFor (run n (start n caps) steps)

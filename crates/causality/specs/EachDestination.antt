@@ -26,4 +26,5 @@ pub record Progress (w : World) : Type 0 where
 
 -- for the lists of demand 3
 abbrev pub EachDestination : Type 0
-EachDestination = (n : ℕ) (caps : ℕ → ℕ) → EachInRange n caps → (steps : List Step) → BodiesOfBytes steps → length steps < 1000000000 → Progress (run n (start n caps) steps)
+EachDestination = (n : ℕ) (caps : ℕ → ℕ) → EachInRange n caps → (steps : List Step) → BodiesOfBytes steps → length steps < 1000000000
+    → Progress (run n (start n caps) steps)

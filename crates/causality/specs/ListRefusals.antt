@@ -34,4 +34,5 @@ pub record ListRefusalsFor (w : World) : Type 0 where
 
 -- for the lists of demand 3
 abbrev pub ListRefusals : Type 0
-ListRefusals = (n : ℕ) (caps : ℕ → ℕ) → EachInRange n caps → (steps : List Step) → BodiesOfBytes steps → length steps < 1000000000 → ListRefusalsFor (run n (start n caps) steps)
+ListRefusals = (n : ℕ) (caps : ℕ → ℕ) → EachInRange n caps → (steps : List Step) → BodiesOfBytes steps → length steps < 1000000000
+    → ListRefusalsFor (run n (start n caps) steps)

@@ -64,4 +64,5 @@ pub record RightsFor (n : ℕ) (w : World) : Type 0 where
 
 -- for the lists of demand 3
 abbrev pub RightsKept : Type 0
-RightsKept = (n : ℕ) (caps : ℕ → ℕ) → EachInRange n caps → (steps : List Step) → BodiesOfBytes steps → length steps < 1000000000 → RightsFor n (run n (start n caps) steps)
+RightsKept = (n : ℕ) (caps : ℕ → ℕ) → EachInRange n caps → (steps : List Step) → BodiesOfBytes steps → length steps < 1000000000
+    → RightsFor n (run n (start n caps) steps)

@@ -38,19 +38,19 @@ pieces-found s at end h e l =
     (decide (ltb end (length s)))
 
 -- numbers in front of others, where these are numbers
-unfoldable pub joined : List ℕ → Option (List ℕ) → Option (List ℕ)
-joined vs (some ws) = some (vs ++ ws)
-joined vs none = none
+unfoldable pub withNumbers : List ℕ → Option (List ℕ) → Option (List ℕ)
+withNumbers vs (some ws) = some (vs ++ ws)
+withNumbers vs none = none
 
-joined-nil : (o : Option (List ℕ)) → joined [] o ≡ o
-unfolding joined
-joined-nil (some ws) = refl
-joined-nil none = refl
+with-nil : (o : Option (List ℕ)) → withNumbers [] o ≡ o
+unfolding withNumbers
+with-nil (some ws) = refl
+with-nil none = refl
 
-joined-more : (vs : List ℕ) (v : ℕ) (o : Option (List ℕ)) → joined vs (withNumber (Is v) o) ≡ joined (vs ++ (v ∷ [])) o
-unfolding joined withNumber
-joined-more vs v (some ws) = rw (append-assoc vs (v ∷ []) ws)
-joined-more vs v none = refl
+with-more : (vs : List ℕ) (v : ℕ) (o : Option (List ℕ)) → withNumbers vs (withNumber (Is v) o) ≡ withNumbers (vs ++ (v ∷ [])) o
+unfolding withNumbers withNumber
+with-more vs v (some ws) = rw (append-assoc vs (v ∷ []) ws)
+with-more vs v none = refl
 
 -- the next cap is stored behind those that were found
 padded-more : (vs : List ℕ) (v : ℕ) → length vs < maxCaps → set (padded vs) (length vs) v ≡ padded (vs ++ (v ∷ []))
@@ -61,14 +61,14 @@ padded-more vs v h =
     rw more (set-append-seam vs 0 zeros v ∙ sym (append-assoc vs (v ∷ []) zeros))
 
 -- as many caps as are taken and a number more are too many
-sizes-long : (n m : Number) (vs : List ℕ) (o : Option (List ℕ)) → maxCaps ≤ length vs → other ≡ sizes n (joined vs (withNumber m o))
-unfolding sizes joined withNumber
+sizes-long : (n m : Number) (vs : List ℕ) (o : Option (List ℕ)) → maxCaps ≤ length vs → other ≡ sizes n (withNumbers vs (withNumber m o))
+unfolding sizes withNumbers withNumber
 sizes-long n (Is v) vs (some ws) h = rw (lt-leb (length (vs ++ (v ∷ ws))) maxCaps (omega (arith, length-append vs (v ∷ ws))))
 sizes-long n (Is v) vs none h = refl
 sizes-long n Not vs o h = refl
 
 -- and so are they with a piece more, whether it is a number or not
-pieces-long : (n : Number) (vs : List ℕ) (ps : List (List ℕ)) → maxCaps ≤ length vs → 1 ≤ length ps → other ≡ sizes n (joined vs (numbers ps))
+pieces-long : (n : Number) (vs : List ℕ) (ps : List (List ℕ)) → maxCaps ≤ length vs → 1 ≤ length ps → other ≡ sizes n (withNumbers vs (numbers ps))
 unfolding numbers
 pieces-long n vs [] h l = absurd (omega arith)
 pieces-long n vs (p ∷ ps) h l = sizes-long n (value 3 p) vs (numbers ps) h
@@ -80,18 +80,18 @@ pub record Found (s : List ℕ) (from : ℕ) (caps : List ℕ) (count end : ℕ)
   pub few : count ≤ maxCaps
   pub place : end ≤ length s
   pub stored : caps ≡ padded done
-  pub left : numbers (behind from s) ≡ joined done (numbers (behind end s))
+  pub left : numbers (behind from s) ≡ withNumbers done (numbers (behind end s))
 
 -- before the first cap
 pub found-none : (s : List ℕ) (from : ℕ) → from ≤ length s → Found s from (replicate maxCaps 0) 0 from
 unfolding padded
 found-none s from h =
-    record { done = []; many = refl; few = omega arith; place = h; stored = refl; left = sym (joined-nil (numbers (behind from s))) }
+    record { done = []; many = refl; few = omega arith; place = h; stored = refl; left = sym (with-nil (numbers (behind from s))) }
 
 module _ (s : List ℕ) (from : ℕ) (caps : List ℕ) (count end : ℕ) (f : Found s from caps count end) where
   -- at the end of the line the caps are counted
   pub found-all : (n : Number) → length s ≤ end → counted n count caps ≡ sizes n (numbers (behind from s))
-  unfolding sizes numbers joined
+  unfolding sizes numbers withNumbers
   found-all n h =
       rw (f .left, behind-end end s h, append-nil (f .done), le-leb (length (f .done)) maxCaps (omega (arith, f .many, f .few)), f .many, f .stored)
 
@@ -111,7 +111,7 @@ module _ (s : List ℕ) (from : ℕ) (caps : List ℕ) (count end : ℕ) (f : Fo
     module _ (end′ : ℕ) (e : end′ ≡ end + 1 + before 32 (drop (end + 1) s)) (l : end′ ≤ length s) where
       -- a piece that is no number
       pub found-other : (n : Number) → value 3 (take (end′ - (end + 1)) (drop (end + 1) s)) ≡ Not → other ≡ sizes n (numbers (behind from s))
-      unfolding sizes joined withNumber
+      unfolding sizes withNumbers withNumber
       found-other n h = rw (f .left, next end′ e l, h)
 
       -- a cap more
@@ -124,7 +124,7 @@ module _ (s : List ℕ) (from : ℕ) (caps : List ℕ) (count end : ℕ) (f : Fo
             few = omega arith;
             place = l;
             stored = rw (f .stored, f .many) (padded-more (f .done) v (omega (arith, f .many)));
-            left = f .left ∙ rw (next end′ e l, i) (joined-more (f .done) v (numbers (behind end′ s)));
+            left = f .left ∙ rw (next end′ e l, i) (with-more (f .done) v (numbers (behind end′ s)));
           }
 
 -- the first line, whose first piece ends at `end`

@@ -12,7 +12,7 @@ use Rattle.text.specs.declared.Number.the-variants.{Is, Not}
 use Rattle.commands.specs.declared.FirstLine.{FirstLine}
 use Rattle.commands.specs.declared.Form.the-variants.{Sizes, Other}
 
--- caps that a first line gives at most: a yard has at most four nodes
+-- caps that a first line gives at most: one for each node that a simulation may have
 abbrev pub maxCaps : ℕ
 maxCaps = 4
 

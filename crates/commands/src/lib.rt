@@ -6,7 +6,7 @@ ghost use Rattle.commands.specs.Commands.{letter, withOne, withTwo, comm
 ghost use Rattle.commands.specs.FirstLine.{other, numbers, counted, sizes, firstLine};
 ghost use Rattle.commands.specs.Behind.{behind};
 
-/// Caps that a first line gives at most: a yard has at most four nodes.
+/// Caps that a first line gives at most: one for each node that a simulation may have.
 pub const MAX_CAPS: usize = 4;
 
 /// What a line asks for; the numbers are as they stand in the line, and may be out of range.

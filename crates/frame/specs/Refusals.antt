@@ -1,4 +1,5 @@
--- Why a run of bytes is no frame among n nodes: document 01's refusals 8 to 11, each a predicate of its own. A frame has its sender's cap, whatever the receiver's (document 02, (x)).
+-- Why a run of bytes is no frame among n nodes: document 01's refusals 8 to 11, each a predicate of its own.
+-- A frame has its sender's cap, whatever the receiver's (document 02, (x)).
 use Prim.Native.Nat.{ℕ, _+_, _*_}
 use mathlib.Core.Bool.{Bool, true, not, cond, _&&_, _||_}
 use mathlib.Core.List.{List, [], _∷_}

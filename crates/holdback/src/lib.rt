@@ -149,7 +149,7 @@ fn all_zero(s: &[u8]) -> bool
     acc == 0
 }
 
-// The key of the frame in a slot, 16 * number + from, and 0 where the slot is wrong.
+// The key of the frame in a slot, 16 * number + from, and 0 where the slot is wrong, whatever the node's cap.
 fn slot_key(slot: &[u8], me: u8, n: u8, m: &[u32; 144], deliv: &[u32; 12]) -> u64
     requires { ⌜ (length (now slot) ≡ maxFrame) × (n ≤ maxNodes) ⌝ }
     ensures { λ r. ⌜ ((cap : ℕ) → r ≡ slotKey (nodeWith me n cap (now (m .entry)) (now (deliv .entry)) []) (now (slot .entry))) ⌝ }
@@ -200,7 +200,7 @@ fn some_equal(keys: &[u64]) -> bool
     false
 }
 
-/// Check 4: the queue is not laid out as it should be, a held frame would meet one of 8 to 14, or two held frames agree in from and number.
+/// Check 4: the queue is not laid out as it should be, a held frame would meet one of 8 to 14, or two held frames agree in from and number; the node's cap has no part in it.
 pub fn wrong_queue(q: &[u8], held: usize, me: u8, n: u8, m: &[u32; 144], deliv: &[u32; 12]) -> bool
     requires { ⌜ (length (now q) ≡ queueSize) × (held ≤ maxHeld) × (n ≤ maxNodes) ⌝ }
     ensures { λ r. ⌜ ((cap : ℕ) → r ≡ wrongQueue (nodeWith me n cap (now (m .entry)) (now (deliv .entry)) []) held (now (q .entry))) ⌝ }

@@ -35,6 +35,11 @@ single-limit a b v k h x y = go (ℕ-discrete x a) (ℕ-discrete y b)
     go (yes p) (no q) = rw (single-else a b v x y (λ _ s. q s)) (omega arith)
     go (no p) d = rw (single-else a b v x y (λ s _. p s)) (omega arith)
 
+-- a column that the merge leaves has as many entries
+column-kept : (j : ℕ) (m e : Matrix) (y : ℕ) → ((x : ℕ) → merge j m e x y ≡ m x y) → columnCount (merge j m e) y ≡ columnCount m y
+unfolding columnCount
+column-kept j m e y q = sum-ext 12 (λ x. nonZero (merge j m e x y)) (λ x. nonZero (m x y)) (λ x. ap nonZero (q x))
+
 -- entries e from node k that claim no more of row j than stands there: new ones stand outside that row, the columns of both nodes, and the diagonal
 module _ (j k : ℕ) (m e : Matrix) (hj : j < 12) (hk : k < 12) (apart : k ≢ j) (diagonal : (x : ℕ) → e x x ≡ 0) (own : (x : ℕ) → e x k ≡ 0)
     (claims : (y : ℕ) → y < 12 → e j y ≤ m j y) where
@@ -55,11 +60,6 @@ module _ (j k : ℕ) (m e : Matrix) (hj : j < 12) (hk : k < 12) (apart : k ≢ j
       same : (x : ℕ) → merge j m e x y ≡ m x y → nonZero (merge j m e x y) - nonZero (m x y) ≡ 0
       same x q = omega (arith, ap nonZero q)
 
-  -- none in the columns of both
-  column-kept : (y : ℕ) → ((x : ℕ) → merge j m e x y ≡ m x y) → columnCount (merge j m e) y ≡ columnCount m y
-  unfolding columnCount
-  column-kept y q = sum-ext 12 (λ x. nonZero (merge j m e x y)) (λ x. nonZero (m x y)) (λ x. ap nonZero (q x))
-
   -- so at most ten in each of ten
   pub merge-count : count (merge j m e) ≤ count m + 100
   unfolding count
@@ -67,10 +67,10 @@ module _ (j k : ℕ) (m e : Matrix) (hj : j < 12) (hk : k < 12) (apart : k ≢ j
       omega (
         arith,
         sum-above 12 (columnCount (merge j m e)) (columnCount m),
-        sum-less-two 12 10 j k (λ y. columnCount (merge j m e) y - columnCount m y) hj hk apart (omega (arith, column-kept j (merge-own j m e)))
-            (omega (arith, column-kept k (λ x. merge-kept j m e x k (own x)))) (λ y h. more y h (ℕ-discrete y j)),
+        sum-less-two 12 10 j k (λ y. columnCount (merge j m e) y - columnCount m y) hj hk apart (omega (arith, column-kept j m e j (merge-own j m e)))
+            (omega (arith, column-kept j m e k (λ x. merge-kept j m e x k (own x)))) (λ y h. more y h (ℕ-discrete y j)),
       )
     where
       more : (y : ℕ) → y < 12 → Dec (y ≡ j) → columnCount (merge j m e) y - columnCount m y ≤ 10
-      more y h (yes q) = rw q (omega (arith, column-kept j (merge-own j m e)))
+      more y h (yes q) = rw q (omega (arith, column-kept j m e j (merge-own j m e)))
       more y h (no q) = omega (arith, column-more y h q)

@@ -43,7 +43,7 @@ pub record InRange (n cap : ℕ) : Type 0 where
   pub capFrom : n ≤ cap
   pub capTo : cap ≤ n * n
 
--- a cap for each of n nodes, which may differ (document 02, (x)), each in range
+-- a cap for each of n nodes, which may differ (document 02, (x)), each in range; of no nodes it asks nothing
 abbrev pub EachInRange : ℕ → (ℕ → ℕ) → Type 0
 EachInRange n caps = (i : ℕ) → i < n → InRange n (caps i)
 

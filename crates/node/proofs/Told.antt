@@ -9,9 +9,8 @@ use Rattle.wire.proofs.Bytes.{length-put}
 use Rattle.wire.specs.Bytes.{put}
 use Rattle.wire.specs.Limits.{maxBody, maxCount, maxNodes}
 use Rattle.matrix.specs.Array.{entry}
-use Rattle.matrix.specs.Matrix.{Matrix, clear, merge}
+use Rattle.matrix.specs.Matrix.{clear}
 use Rattle.matrix.specs.Message.{Kind, user, extra, Message, userMessage}
-use Rattle.frame.proofs.Frames.{frames-nil}
 use Rattle.frame.specs.Frame.{decode}
 use Rattle.frame.specs.Frames.{framesOf}
 use Rattle.frame.specs.Header.{header, kindByte}
@@ -28,7 +27,6 @@ use Rattle.protocol.specs.Node.{Node}
 use Rattle.protocol.specs.Offer.{deliverable}
 use Rattle.protocol.specs.Send.{sending}
 use Rattle.protocol.specs.Trim.{trimFor}
-use Rattle.trim.proofs.Bounds.{trim-1008}
 use Rattle.trim.proofs.Outputs.{delivery-bytes, send-bytes}
 use Rattle.node.proofs.Cases.{deliver-cases, offer-cases, send-cases}
 use Rattle.node.proofs.Sending.{sendable}
@@ -112,11 +110,6 @@ offer-told r s q =
 of-kind : (k : Kind) (l most : ℕ) → l ≤ most * oneUser k → l ≤ most
 of-kind user l most h = omega arith
 of-kind extra l most h = omega arith
-
--- what is issued when entries are taken in
-pub learn-room : (k : Kind) (d : Node) (e : Matrix) → length (framesOf (learn k d e .extras)) ≤ 1008
-learn-room user d e = trim-1008 (d .me) (d .n) (d .cap) (merge (d .me) (d .matrix) e)
-learn-room extra d e = rw frames-nil (omega arith)
 
 -- the body of a sound frame
 body-small : (s : List ℕ) → CheckedFrame s → length (decode s .body) ≤ maxBody

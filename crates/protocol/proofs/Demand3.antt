@@ -7,7 +7,7 @@ use Rattle.protocol.proofs.Good.{Good}
 use Rattle.protocol.proofs.Liveness.{exists, queue-agrees, accepts-first, delivers-first}
 use Rattle.protocol.proofs.Runs.{run-good, run-length, start-good}
 use Rattle.protocol.specs.Answer.{label}
-use Rattle.protocol.specs.Demand3.{Demand3For, Demand3}
+use Rattle.protocol.specs.Demand3.{Demand3}
 use Rattle.protocol.specs.World.{World, start, run}
 
 pub demand3 : Demand3

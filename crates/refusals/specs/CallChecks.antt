@@ -131,7 +131,8 @@ hostDeliverChecks i q out body answer =
 abbrev pub loadChecks : (input : List ℕ) → List Check
 loadChecks input = check 18 (refused18 input) ∷ []
 
--- the trail's write: 19. The frame to write would meet one of 8 to 11 with its own n taken for the record's, or has this out of 1's range.
+-- the trail's write: 19. The frame to write would meet one of 8 to 11 with its own n and cap taken for the record's, or has these out of 1's range
+-- (10 looks at the cap: document 02, (x)).
 -- 3, after 19. It doesn't fit.
 abbrev pub writeChecks : (file : List ℕ) → ℕ → (frame : List ℕ) → List Check
 writeChecks file used frame = check 19 (unsound frame) ∷ check 3 (noRoomFor file used frame) ∷ []

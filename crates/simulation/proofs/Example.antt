@@ -72,8 +72,8 @@ printed =
     ++ (68 ∷ 32 ∷ 50 ∷ 32 ∷ 51 ∷ 32 ∷ 49 ∷ 10 ∷ [])
     ++ (84 ∷ 32 ∷ 51 ∷ 32 ∷ 48 ∷ 32 ∷ 51 ∷ 32 ∷ 49 ∷ 32 ∷ 48 ∷ 10 ∷ [])
 
--- the same story among nodes with caps 3, 5 and 9, and with more deliveries that answer none: one while nothing is held (N 2 0), and two (N 2 1) that pass over issue 3, which is offered again in
--- between (R 15)
+-- the same story among nodes with caps 3, 5 and 9, and with more deliveries that answer none: one while nothing is held (N 2 0), and two (N 2 1) that pass
+-- over issue 3, which is offered again in between (R 15)
 abbrev pub waiting : List ℕ
 waiting =
     (51 ∷ 32 ∷ 51 ∷ 32 ∷ 53 ∷ 32 ∷ 57 ∷ 10 ∷ [])
@@ -116,7 +116,6 @@ unfolding ours lacksRight group setUp inRange cutFor sendCall offerCall deliverC
     trailers.counted checksum decode wrongQueue sameBytes heldRefused someRefused someAlike arrivalRefusal frameRefusal wrongTrailer hasTrailer countBack
     sumBack wrongKind wrongAddress wrongContent wrongBody wrongEntries eachOk entryOk precedes rising risingAfter zeros padded slots frameIn heldFrames without
     sendStep offerStep deliverStep named issueFrom startable capTaken upTo32 share noCounters withExtras countedSend countedOffer countedDelivery countedNothing
-    commands.letter commands.withOne commands.withTwo commands.ofPieces commands.command firstLine.sizes firstLine.counted firstLine.padded firstLine.numbers firstLine.withNumber firstLine.ofPieces firstLine.firstLine row lineEnd
-    spaced
-    decimal digits value continued isDigit split grown output ofLines started lines line printedBy countedBy headerRow issueRows
+    commands.letter commands.withOne commands.withTwo commands.ofPieces commands.command firstLine.sizes firstLine.counted firstLine.padded
+    firstLine.numbers firstLine.withNumber firstLine.ofPieces firstLine.firstLine row lineEnd spaced decimal digits value continued isDigit split grown output ofLines started lines line printedBy countedBy headerRow issueRows
 examples = (refl, refl)

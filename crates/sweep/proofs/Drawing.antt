@@ -19,7 +19,7 @@ use Rattle.world.specs.declared.Outcome.{Outcome}
 use Rattle.world.specs.declared.Outcome.the-variants as outcome
 use Rattle.world.specs.declared.World.{World as Stored}
 use Rattle.counting.specs.State.{State, countedBy, opened, stateAfter}
-use Rattle.sweep.specs.Load.{afterDraw, afterDraws, made, maxIssues, runOf}
+use Rattle.sweep.specs.Load.{afterDraw, afterDraws, made, maxIssues}
 
 -- what is asked of the code of the draw v: what is counted and the stored world are the definition's
 abbrev pub StepDone : (n : ℕ) (caps : ℕ → ℕ) (k : ℕ) (z : State) (v : ℕ) (o : Outcome) (s : Stored) (q l : List ℕ) → Type 0
@@ -73,7 +73,7 @@ pub record Drawing (n : ℕ) (caps : ℕ → ℕ) (seed draws : ℕ) (w : Stored
   pub state : State
   pub holds : Holds n caps maxIssues i (state .world) w q l
   pub counted : t ≡ state .counters
-  pub left : afterDraws n state x (draws - i) ≡ runOf n caps seed draws
+  pub left : afterDraws n state x (draws - i) ≡ afterDraws n (opened n caps) seed draws
 
 pub drawing-starts : (n : ℕ) (caps : ℕ → ℕ) (seed draws : ℕ) (w : Stored) (t : Counters) (q l : List ℕ) → Holds n caps maxIssues 0 (start n caps) w q l → t ≡ noCounters
     → Drawing n caps seed draws w t seed 0 q l
@@ -104,5 +104,5 @@ module _ (n : ℕ) (caps : ℕ → ℕ) (seed draws : ℕ) (w : Stored) (t : Cou
   unfolding afterDraws
   left-none h = let e : draws - i ≡ 0 = omega arith in ap (afterDraws n (r .state) x) e
 
-  pub drawing-ends : i ≡ draws → t ≡ runOf n caps seed draws .counters
+  pub drawing-ends : i ≡ draws → t ≡ afterDraws n (opened n caps) seed draws .counters
   drawing-ends h = r .counted ∙ ap (λ (y : State). y .counters) (sym (left-none h) ∙ r .left)

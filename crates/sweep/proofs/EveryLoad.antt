@@ -37,7 +37,7 @@ pub everyLoad : EveryLoad
 everyLoad n cap seed draws two four from to short =
     let caps : ℕ → ℕ = λ i. cap in
     let inside : EachInRange n caps = λ i h. record { atLeast2 = two; atMost12 = omega arith; capFrom = from; capTo = to } in
-    let z : State = runOf n caps seed draws in
+    let z : State = runOf n cap seed draws in
     let r : Kept n caps draws z
     = subst (λ (i : ℕ). Kept n caps i z) (zero-add draws) (draws-kept n caps inside 0 (opened n caps) seed draws (kept-start n caps) (omega arith)) in
     of-list n caps draws z inside r short

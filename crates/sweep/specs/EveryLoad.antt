@@ -5,4 +5,4 @@ use Rattle.sweep.specs.Load.{runOf}
 
 -- for every n that a load takes and every cap of its table, from any seed and after any number of draws below 1,000,000,000 (a load has at most 400)
 abbrev pub EveryLoad : Type 0
-EveryLoad = (n cap seed draws : ℕ) → 2 ≤ n → n ≤ 4 → n ≤ cap → cap ≤ n * n → draws < 1000000000 → OfList n (λ i. cap) draws (runOf n (λ i. cap) seed draws)
+EveryLoad = (n cap seed draws : ℕ) → 2 ≤ n → n ≤ 4 → n ≤ cap → cap ≤ n * n → draws < 1000000000 → OfList n (λ i. cap) draws (runOf n cap seed draws)

@@ -38,15 +38,15 @@ unfoldable pub afterDraws : (n : ℕ) → State → (x k : ℕ) → State
 afterDraws n y x zero = y
 afterDraws n y x (suc k) = afterDraws n (afterDraw n y (next x)) (next x) k
 
--- a run of n nodes with these caps, from fresh nodes and from the seed
-abbrev pub runOf : (n : ℕ) (caps : ℕ → ℕ) (seed draws : ℕ) → State
-runOf n caps seed draws = afterDraws n (opened n caps) seed draws
+-- a run of n nodes with one cap for all, from fresh nodes and from the seed
+abbrev pub runOf : (n cap seed draws : ℕ) → State
+runOf n cap seed draws = afterDraws n (opened n (λ i. cap)) seed draws
 
 -- ---- The table
 
--- the line of a cap: the cap and the T numbers of its run, in which all nodes have it
+-- the line of a cap: the cap and the T numbers of its run
 abbrev pub capRow : (n seed draws cap : ℕ) → List ℕ
-capRow n seed draws cap = numberRow cap (totals (runOf n (λ i. cap) seed draws .counters))
+capRow n seed draws cap = numberRow cap (totals (runOf n cap seed draws .counters))
 
 -- the lines of `count` caps from `cap` on
 unfoldable pub capRows : (n seed draws cap count : ℕ) → List ℕ

@@ -8,11 +8,11 @@ use world::World;
 ghost use mathlib.Core.Path.{_≡_};
 ghost use Prim.Native.Nat.{ℕ, _+_, _≤_, _<_};
 ghost use Rattle.causality.specs.Demand3.{start};
-ghost use Rattle.counting.specs.State.{State, countedBy};
+ghost use Rattle.counting.specs.State.{State, countedBy, opened};
 ghost use Rattle.counting.specs.Stands.{Few, Opened};
 ghost use Rattle.world.specs.Start.{maxSimulated};
 ghost use Rattle.world.specs.Stored.{Holds, Standing, storedBy};
-ghost use Rattle.sweep.specs.Load.{maxIssues, afterDraw, runOf};
+ghost use Rattle.sweep.specs.Load.{maxIssues, afterDraw, afterDraws};
 
 // The step of the draw v.
 fn step(w: World, v: u32, queues: &mut [u8], log: &mut [u8]) -> Stepped
@@ -41,7 +41,7 @@ pub fn run_draws(
 ) -> Counters
     requires { ⌜ Opened maxIssues first (now queues) (now log) × (count ≤ 400) ⌝ }
     ensures { λ r. ⌜ ((n : ℕ) (caps : ℕ → ℕ) → Holds n caps maxIssues 0 (start n caps) first (now (queues .entry)) (now (log .entry))
-        → r ≡ runOf n caps seed count .counters) ⌝ }
+        → r ≡ afterDraws n (opened n caps) seed count .counters) ⌝ }
 {
     let mut t = counters::no_counters();
     let mut w = first;

@@ -21,7 +21,7 @@ const LOG_SIZE: usize = Node::MAX_FRAME * MAX_ISSUES + Node::OUT_SIZE;
 // The counters of a run: n fresh nodes with this cap, and the draws from the seed. What an earlier run left in the log does not matter.
 fn run_cap(n: usize, cap: usize, seed: u32, draws: usize, log: &mut [u8]) -> Counters
     requires { ⌜ (2 ≤ n) × (n ≤ 4) × (n ≤ cap) × (cap ≤ n * n) × (draws ≤ 400) × (length (now log) ≡ logSize maxIssues) ⌝ }
-    ensures { λ r. ⌜ r ≡ runOf n (λ i. cap) seed draws .counters ⌝ }
+    ensures { λ r. ⌜ r ≡ runOf n cap seed draws .counters ⌝ }
 {
     let caps = [cap; world::MAX_SIMULATED];
     let mut queues = [0u8; QUEUES_SIZE];

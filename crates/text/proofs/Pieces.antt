@@ -114,7 +114,7 @@ module _ (c : ℕ) (s : List ℕ) (a b : ℕ) (first : a ≡ 0 + before c (drop 
   pub two-pieces : b ≡ length s → split c s ≡ take a s ∷ take (b - (a + 1)) (drop (a + 1) s) ∷ []
   two-pieces h = first-piece c s a first more ∙ rw (split-last c s (a + 1) b second h (omega arith))
 
-  pub second-piece : b < length s → split c s ≡ take a s ∷ take (b - (a + 1)) (drop (a + 1) s) ∷ split c (drop (b + 1) s)
+  second-piece : b < length s → split c s ≡ take a s ∷ take (b - (a + 1)) (drop (a + 1) s) ∷ split c (drop (b + 1) s)
   second-piece h = first-piece c s a first more ∙ rw (split-found c s (a + 1) b second h)
 
 -- it is three pieces, or the third one goes up to place e

@@ -1,5 +1,5 @@
 -- A frame on its own: it would meet none of 8 to 11 with its own n taken for the record's, and n is in the range of 1.
-use Prim.Native.Nat.{ℕ, _*_}
+use Prim.Native.Nat.{ℕ}
 use mathlib.Core.Bool.{Bool, cond, not, _&&_, _||_}
 use mathlib.Core.List.{List}
 use lib.Dec.{leb, eqb}

@@ -1,4 +1,3 @@
 -- Laws that the proofs of this crate and of the crates above cite.
 pub mod Trimming
-pub mod Bounds
 pub mod Outputs

@@ -8,7 +8,7 @@ use Rattle.node.specs.declared.SetUpAnswer.{SetUpAnswer}
 use Rattle.node.specs.declared.SetUpAnswer.the-variants.{Refused, Ready}
 use Rattle.node.specs.SetUp.{setUp}
 
--- the cap of node i
+-- the cap of node i, 0 where the list has none
 abbrev pub capOf : List ℕ → ℕ → ℕ
 capOf caps i = getD caps i 0
 

@@ -58,6 +58,7 @@ fresh n caps = record { n = n; nodes = freshFor n caps 0 ∷ freshFor n caps 1 �
 -- ---- A world that is stored
 
 -- the world w, which at most k steps led to, is stored in s, the queues q and the log l
+-- range, least, few: each cap is in range, and there are 2 to 4 nodes
 -- below: a step that issues finds n issues left, and issues at most n
 pub record Holds (n : ℕ) (caps : ℕ → ℕ) (limit k : ℕ) (w : World) (s : Stored) (q l : List ℕ) : Type 0 where
   pub range : EachInRange n caps

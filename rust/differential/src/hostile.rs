@@ -3,6 +3,7 @@
 
 use crate::lists::{Pairs, Step, Stray, Totals};
 use generate::neighbours::exchange;
+use generate::records::caps_by;
 use generate::{frames, records, topics, Call};
 use reference::ceiling::large_cap;
 use reference::draft::has_right_sum;
@@ -59,13 +60,12 @@ pub fn hostile(random: &mut Random, steps: usize, totals: Totals) -> Step<Totals
     pairs.end()
 }
 
-/// A cap for each of n nodes: in every second list one for all, in the others the least beside the largest, or any.
+/// A cap for each of n nodes, in every second list one for all.
 fn any_caps(random: &mut Random, n: usize) -> Vec<usize> {
-    let one = any_cap(random, n);
-    match random.below(4) {
-        0 | 1 => vec![one; n],
-        2 => (0..n).map(|_| random.pick(&[n, n * n])).collect(),
-        _ => (0..n).map(|_| any_cap(random, n)).collect(),
+    if random.once_in(3) {
+        vec![any_cap(random, n); n]
+    } else {
+        caps_by(random, n, any_cap)
     }
 }
 

@@ -36,14 +36,19 @@ pub fn any_cap(random: &mut Random, n: usize) -> usize {
     }
 }
 
-/// A cap for each of n nodes: one for all, the least beside the largest, or any.
-pub fn any_caps(random: &mut Random, n: usize) -> Vec<usize> {
-    let one = any_cap(random, n);
+/// A cap for each of n nodes, drawn by `cap`: one for all, the least beside the largest, or each its own.
+pub fn caps_by(random: &mut Random, n: usize, cap: fn(&mut Random, usize) -> usize) -> Vec<usize> {
+    let one = cap(random, n);
     match random.below(4) {
         0 => vec![one; n],
         1 => (0..n).map(|_| random.pick(&[n, n * n])).collect(),
-        _ => (0..n).map(|_| any_cap(random, n)).collect(),
+        _ => (0..n).map(|_| cap(random, n)).collect(),
     }
+}
+
+/// A cap for each of n nodes.
+pub fn any_caps(random: &mut Random, n: usize) -> Vec<usize> {
+    caps_by(random, n, any_cap)
 }
 
 /// The places of M that may be non-zero at this record, rising by row then column.

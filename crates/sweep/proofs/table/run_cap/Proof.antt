@@ -1,26 +1,17 @@
 -- The start is stored, every node with this cap, and the draws follow. Assumes nothing.
-use Prim.Native.Nat.{_*_, _<_, _≤_, suc, zero, ℕ}
+use Prim.Native.Nat.{_*_, _≤_, ℕ}
 use mathlib.Core.List.{List}
 use mathlib.Core.Path.{_≡_, refl}
 use native.Mathlib.Omega.{arith}
-use lib.ListN.{length, replicate}
+use lib.ListN.{getD-replicate, length, replicate}
 use Rattle.causality.specs.Demand3.{start}
 use Rattle.counting.proofs.Lists.{stored-start}
 use Rattle.sweep.specs.Load.{maxIssues}
-use Rattle.world.specs.Start.{capOf}
 use Rattle.world.specs.Stored.{Holds, fresh, logSize}
 use Rattle.world.specs.declared.World.{World}
 use borrow.Author.Needs.{needs}
 use Rattle.sweep.proofs.table.run_cap.Statement.{statement}
 use Rattle.sweep.proofs.table.run_cap.Tie as tie
-
--- the caps of at most four nodes that all have this one
-same-cap : (n cap : ℕ) → n ≤ 4 → (i : ℕ) → i < n → capOf (replicate 4 cap) i ≡ cap
-same-cap n cap l zero h = refl
-same-cap n cap l (suc zero) h = refl
-same-cap n cap l (suc (suc zero)) h = refl
-same-cap n cap l (suc (suc (suc zero))) h = refl
-same-cap n cap l (suc (suc (suc (suc i)))) h = absurd (omega arith)
 
 -- such nodes at their start
 started : (n cap : ℕ) → 2 ≤ n → n ≤ 4 → n ≤ cap → cap ≤ n * n → (w : World) → w ≡ fresh n (replicate 4 cap) → (l : List ℕ) → length l ≡ logSize maxIssues
@@ -30,7 +21,7 @@ started n cap two four from to w e l s =
       least = two;
       few = four;
       range = λ i h. record { atLeast2 = two; atMost12 = omega arith; capFrom = from; capTo = to };
-    }) (same-cap n cap four) w e 51328 refl l s
+    }) (λ i h. getD-replicate 4 i cap 0 (omega arith)) w e 51328 refl l s
 
 fresh-requires : tie.Need-fresh-requires
 fresh-requires c κs = search needs
