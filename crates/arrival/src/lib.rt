@@ -1,4 +1,6 @@
 //! A sound frame that arrives at a node: its number, the refusals 12 to 14, whether it is deliverable, and its entries merged.
+#![tactic(auto)]
+
 ghost use Rattle.std.specs.Prelude.{◌≡◌, List, ℕ, ◌<◌, ◌≤◌, length};
 ghost use Rattle.wire.specs.Limits.{max_count};
 ghost use Rattle.matrix.specs.Matrix.{merge};

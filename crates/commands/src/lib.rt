@@ -1,4 +1,6 @@
 //! The lines of a simulation's input: the first line with its sizes, and the commands behind it.
+#![tactic(auto)]
+
 ghost use Rattle.std.specs.Prelude.{◌≡◌, ◌≤◌, length, take};
 ghost use Rattle.commands.specs.Commands.{letter, with_one, with_two, command};
 ghost use Rattle.commands.specs.FirstLine.{other, numbers, counted, sizes, first_line};
@@ -8,7 +10,7 @@ ghost use Rattle.commands.specs.Behind.{behind};
 pub const MAX_CAPS: usize = 4;
 
 /// What a line asks for; the numbers are as they stand in the line, and may be out of range.
-#[derive(Drop)]
+#[derive(Clone, Copy)]
 pub enum Command {
     Send { from: usize, to: usize },
     Offer(usize),
@@ -17,14 +19,14 @@ pub enum Command {
 }
 
 /// Whether a first line gives sizes, and then its n, which may be out of range.
-#[derive(Drop)]
+#[derive(Clone, Copy)]
 pub enum Form {
     Sizes(usize),
     Other,
 }
 
 /// What the first line says; the caps are as they stand in the line, one for each of the n nodes, with zeros behind them, and all zero in another form.
-#[derive(Drop)]
+#[derive(Clone, Copy)]
 pub struct FirstLine {
     pub form: Form,
     pub caps: [usize; MAX_CAPS],
@@ -60,7 +62,7 @@ fn with_one(l: u8, i: text::Number) -> Command
 }
 
 // The command of a letter and two fields.
-fn with_two_lem(l: u8, i: text::Number, j: text::Number) -> Command
+fn with_two(l: u8, i: text::Number, j: text::Number) -> Command
     ensures { result ≡ with_two l i j }
 {
     match i {
@@ -100,7 +102,7 @@ pub fn parse_command(line: &[u8]) -> Command
     if e < line.len() {
         return Command::Other;
     }
-    with_two_lem(l, first, text::field(line, j, e, 3))
+    with_two(l, first, text::field(line, j, e, 3))
 }
 
 // A first line of another form.

@@ -1,9 +1,11 @@
 //! The counters of a run (document 01: the tally), which each step is lent and updates in place.
+#![tactic(auto)]
+
 ghost use Rattle.std.specs.Prelude.{◌≡◌, ◌+◌};
 ghost use Rattle.counters.specs.Counted.{up_to32, share, no_counters, with_extras, counted_send, counted_offer, counted_delivery, counted_nothing, totals};
 
 /// User frames, extra frames, frames delivered (of either kind), delays (frames accepted without being deliverable), and extras per hundred user frames.
-#[derive(Drop)]
+#[derive(Clone, Copy)]
 pub struct Counters {
     pub user: u32,
     pub extras: u32,

@@ -1,4 +1,6 @@
 //! The state of a simulation, which the yard and the load share: the world of its list of steps, and the counters that each step updates.
+#![tactic(auto)]
+
 ghost use Rattle.std.specs.Prelude.{◌≡◌, ◌<◌};
 ghost use Rattle.world.specs.Start.{max_simulated};
 ghost use Rattle.world.specs.Stored.{stored_by};
@@ -9,7 +11,7 @@ use counters::Counters;
 use world::{Outcome, Stepped, World};
 
 /// The world, and the counters (document 01: the tally).
-#[derive(Drop)]
+#[derive(Clone, Copy)]
 pub struct State {
     pub world: World,
     pub counters: Counters,

@@ -1,9 +1,11 @@
 //! The step that a number drawn makes in a test load.
+#![tactic(auto)]
+
 ghost use Rattle.std.specs.Prelude.{◌≡◌, ◌≤◌};
 ghost use Rattle.draws.specs.Draws.{send_of, offer_of, step_of};
 
 /// What a draw asks for: a send, an offer of an issue counted from 1, a delivery at a node, or nothing.
-#[derive(Drop)]
+#[derive(Clone, Copy)]
 pub enum Draw {
     Send { from: usize, to: usize },
     Offer(usize),

@@ -6,7 +6,7 @@ ghost use Rattle.matrix.specs.Array.{entry};
 ghost use Rattle.frame.specs.Entries.{entry_bytes, entries_bytes, entry_at, placed, listed, entries_of};
 
 /// An entry of the matrix that a frame carries.
-#[derive(Drop)]
+#[derive(Clone, Copy)]
 pub struct Entry {
     pub row: u8,
     pub column: u8,

@@ -4,7 +4,7 @@ ghost use Rattle.wire.specs.Bytes.{put};
 ghost use Rattle.frame.specs.Header.{header, header_bytes, own_length};
 
 /// The first eight bytes of a frame: e is the entry count, b the body length, and the reserved byte is zero.
-#[derive(Drop)]
+#[derive(Clone, Copy)]
 pub struct Header {
     pub kind: u8,
     pub from: u8,

@@ -9,7 +9,7 @@ ghost use Rattle.frame.specs.Frame.{encode};
 use super::header::Header;
 
 /// Who sends a message to whom, and the sender's n and cap.
-#[derive(Drop)]
+#[derive(Clone, Copy)]
 pub struct Address {
     pub from: u8,
     pub to: u8,

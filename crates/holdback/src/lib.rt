@@ -1,4 +1,6 @@
 //! The hold-back queue (document 01: the shelf): sixteen slots of 802 bytes in a lent slice.
+#![tactic(auto)]
+
 ghost use Rattle.std.specs.Prelude.{◌≡◌, List, [], ◌∷◌, ◌++◌, ℕ, ◌+◌, ◌*◌, ◌≤◌, ◌<◌, length, take, drop};
 ghost use Rattle.wire.specs.Bytes.{put};
 ghost use Rattle.wire.specs.Limits.{max_frame, max_held, max_nodes};

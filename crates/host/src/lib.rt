@@ -1,5 +1,7 @@
-//! The node's calls for programs in Rust and C: the record is an image of 632 lent bytes, and each call returns 0 or its refusal and writes its answer
-//! into eleven lent bytes. Lent slices have any length; a refusal leaves every byte of them.
+//! The calls of a host of nodes: the record is an image of 632 lent bytes, and each call returns 0 or its refusal and writes its answer
+//! into eleven lent bytes. Lent slices have any length; a refusal leaves every byte of them. `host_c` exports them to programs in Rust and C.
+#![tactic(auto)]
+
 mod answer;
 mod trail_calls;
 
@@ -9,6 +11,7 @@ ghost use Rattle.host.specs.Exports.{answer_size};
 ghost use Rattle.node.specs.CallRefusals.{short_outputs};
 
 use node::{deliver, offer, send};
+pub use trail_calls::{trail_step, trail_walk, trail_write};
 
 // The number of a refusal by the node's checks: 20 stands where 2 stood.
 fn told(why: u8) -> u8
@@ -21,8 +24,7 @@ fn told(why: u8) -> u8
 }
 
 /// Set-up: the image becomes that of the fresh record.
-#[unsafe(no_mangle)]
-pub extern "C" fn node_set_up(image: &mut [u8], me: usize, n: usize, cap: usize) -> u8
+pub fn node_set_up(image: &mut [u8], me: usize, n: usize, cap: usize) -> u8
     ensures { set_up_left result image.new ≡ exported_set_up image.old me n cap }
 {
     if !rules::in_range(me, n, cap) {
@@ -46,8 +48,7 @@ fn room(out: usize, answer: usize) -> usize
 }
 
 /// Send, as a node of this class: writes the user frame and then trim's extra frames into `out`; the answer has the extra frames and the bytes issued.
-#[unsafe(no_mangle)]
-pub extern "C" fn node_send(
+pub fn node_send(
     image: &mut [u8],
     to: usize,
     class: usize,
@@ -90,13 +91,7 @@ pub extern "C" fn node_send(
 }
 
 /// Offer: the frame is checked and held; the answer is all zero.
-#[unsafe(no_mangle)]
-pub extern "C" fn node_offer(
-    image: &mut [u8],
-    frame: &[u8],
-    queue: &mut [u8],
-    answer: &mut [u8],
-) -> u8
+pub fn node_offer(image: &mut [u8], frame: &[u8], queue: &mut [u8], answer: &mut [u8]) -> u8
     ensures { offer_left result image.new queue.new answer.new
         ≡ exported_offer image.old frame.now queue.old answer.old }
 {
@@ -132,8 +127,7 @@ fn short_for_deliver(out: usize, body: usize, answer: usize) -> bool
 
 /// Deliver: the first deliverable frame is taken out of the queue, its body written into `body` and trim's extra frames into `out`;
 /// the answer says which it was. Where none is deliverable the answer says how many were tried, and nothing else changes.
-#[unsafe(no_mangle)]
-pub extern "C" fn node_deliver(
+pub fn node_deliver(
     image: &mut [u8],
     queue: &mut [u8],
     out: &mut [u8],

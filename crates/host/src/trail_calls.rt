@@ -1,4 +1,4 @@
-//! The trail's calls for programs in Rust and C: the write, a step of the walk with its cursor in five lent numbers, and the whole walk.
+//! The trail's calls of a host: the write, a step of the walk with its cursor in five lent numbers, and the whole walk.
 ghost use Rattle.std.specs.Prelude.{◌≡◌};
 ghost use Rattle.host.specs.TrailExports.{write_left, exported_write, step_left, exported_step, walk_left, exported_walk};
 
@@ -6,8 +6,7 @@ use trail::walk::{Cursor, StepAnswer, WalkAnswer};
 use trail::write::WriteAnswer;
 
 /// Write: the number in use becomes what it is behind the frame.
-#[unsafe(no_mangle)]
-pub extern "C" fn trail_write(file: &mut [u8], used: &mut usize, frame: &[u8]) -> u8
+pub fn trail_write(file: &mut [u8], used: &mut usize, frame: &[u8]) -> u8
     ensures { write_left result file.new used.new
         ≡ exported_write file.old used.old frame.now }
 {
@@ -21,8 +20,7 @@ pub extern "C" fn trail_write(file: &mut [u8], used: &mut usize, frame: &[u8]) -
 }
 
 /// A step: the cursor's numbers are end, w, kinds, extras and most; shown are start and length, both 0 where the walk has reached the file's start.
-#[unsafe(no_mangle)]
-pub extern "C" fn trail_step(file: &[u8], cursor: &mut [u64; 5], shown: &mut [u64; 2]) -> u8
+pub fn trail_step(file: &[u8], cursor: &mut [u64; 5], shown: &mut [u64; 2]) -> u8
     ensures { step_left result cursor.new shown.new
         ≡ exported_step file.now cursor.old shown.old }
 {
@@ -58,8 +56,7 @@ pub extern "C" fn trail_step(file: &[u8], cursor: &mut [u64; 5], shown: &mut [u6
 }
 
 /// The whole walk with a window of w frames: the largest count of extra frames in a window.
-#[unsafe(no_mangle)]
-pub extern "C" fn trail_walk(file: &[u8], w: usize, most: &mut usize) -> u8
+pub fn trail_walk(file: &[u8], w: usize, most: &mut usize) -> u8
     ensures { walk_left result most.new ≡ exported_walk file.now w most.old }
 {
     match trail::walk::walk(file, w) {

@@ -1,4 +1,6 @@
 //! The load for programs in Rust and C.
+#![tactic(auto)]
+
 ghost use Rattle.std.specs.Prelude.{◌≡◌};
 ghost use Rattle.load_c.specs.Exports.{load_left, exported_load};
 

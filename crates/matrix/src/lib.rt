@@ -1,4 +1,6 @@
 //! The matrix of counts: 144 counts, row by row, so that row x and column y stand at place 12 * x + y. Nothing here knows of bytes.
+#![tactic(auto)]
+
 ghost use Rattle.std.specs.Prelude.{◌≡◌, cond, ◌<◌, ◌≤◌, max, eqb, ltb, length};
 ghost use Rattle.wire.specs.Limits.{max_count};
 ghost use Rattle.matrix.specs.Matrix.{non_zero, count, column_count, fullest, clear, merge, single};

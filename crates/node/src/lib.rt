@@ -1,5 +1,7 @@
 //! The causal node: its record, set-up, send, offer and deliver. The record goes into each call by value and comes back with its answer;
 //! `send`, `offer` and `deliver` have what a call does over lent arrays and numbers, for callers that keep the record in another form.
+#![tactic(auto)]
+
 mod checks;
 pub mod deliver;
 pub mod offer;
@@ -7,7 +9,7 @@ pub mod send;
 mod set_up;
 
 /// The node's record: me, n and cap; the matrix, row by row; the vector of deliveries; and the number of held frames.
-#[derive(Drop)]
+#[derive(Clone, Copy)]
 pub struct Node {
     pub me: u8,
     pub n: u8,
@@ -41,42 +43,42 @@ impl Node {
 }
 
 /// What set-up answers: a refusal's number, or that the record is ready.
-#[derive(Drop)]
+#[derive(Clone, Copy)]
 pub enum SetUpAnswer {
     Refused(u8),
     Ready,
 }
 
 /// Set-up's answer and the record: a fresh one, or on a refusal the all-zero one.
-#[derive(Drop)]
+#[derive(Clone, Copy)]
 pub struct SetUp {
     pub answer: SetUpAnswer,
     pub node: Node,
 }
 
 /// What send answers: a refusal's number, or how many bytes and extra frames it issued.
-#[derive(Drop)]
+#[derive(Clone, Copy)]
 pub enum SendAnswer {
     Refused(u8),
     Sent { bytes: usize, extras: usize },
 }
 
 /// Send's answer and the record.
-#[derive(Drop)]
+#[derive(Clone, Copy)]
 pub struct Sent {
     pub answer: SendAnswer,
     pub node: Node,
 }
 
 /// What offer answers: a refusal's number, or how many frames are held now and whether this one was deliverable at that moment.
-#[derive(Drop)]
+#[derive(Clone, Copy)]
 pub enum OfferAnswer {
     Refused(u8),
     Held { count: usize, ready: bool },
 }
 
 /// Offer's answer and the record.
-#[derive(Drop)]
+#[derive(Clone, Copy)]
 pub struct Offered {
     pub answer: OfferAnswer,
     pub node: Node,
@@ -84,7 +86,7 @@ pub struct Offered {
 
 /// A delivery: the frame's kind (1 user, 2 extra), from and number;
 /// how many held frames were tried (document 01: looked); the body's bytes; and the bytes and extra frames issued.
-#[derive(Drop)]
+#[derive(Clone, Copy)]
 pub struct Delivered {
     pub kind: u8,
     pub from: u8,
@@ -96,7 +98,7 @@ pub struct Delivered {
 }
 
 /// What deliver answers: a refusal's number, that none of the tried held frames is deliverable, or a delivery.
-#[derive(Drop)]
+#[derive(Clone, Copy)]
 pub enum DeliverAnswer {
     Refused(u8),
     Nothing(usize),
@@ -104,7 +106,7 @@ pub enum DeliverAnswer {
 }
 
 /// Deliver's answer and the record.
-#[derive(Drop)]
+#[derive(Clone, Copy)]
 pub struct Delivery {
     pub answer: DeliverAnswer,
     pub node: Node,

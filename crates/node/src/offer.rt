@@ -20,7 +20,7 @@ use super::{Node, OfferAnswer, Offered};
 const LAST_SLOT: usize = wire::MAX_HELD - 1;
 
 /// A refusal's number, or 0, and whether the frame is deliverable now where no earlier check is met.
-#[derive(Drop)]
+#[derive(Clone, Copy)]
 pub struct Verdict {
     pub why: u8,
     pub ready: bool,

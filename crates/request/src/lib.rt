@@ -1,4 +1,6 @@
 //! The input of a test load: one line with the number of nodes, the seed and the number of draws, and which requests are refused.
+#![tactic(auto)]
+
 ghost use Rattle.std.specs.Prelude.{◌≡◌};
 ghost use Rattle.text.specs.Pieces.{split};
 ghost use Rattle.request.specs.Request.{of_numbers, of_fields, request};
@@ -7,7 +9,7 @@ ghost use Rattle.request.specs.Refusal18.{out_of_range, wrong};
 use text::Number;
 
 /// What an input asks for; the numbers are as they stand in the line, and may be out of range.
-#[derive(Drop)]
+#[derive(Clone, Copy)]
 pub enum Request {
     Load { n: usize, seed: u64, draws: usize },
     Other,
@@ -72,7 +74,7 @@ pub fn parse(input: &[u8]) -> Request
 }
 
 // Whether one of the three numbers is out of its range.
-fn when_out_of_range(n: usize, seed: u64, draws: usize) -> bool
+fn out_of_range(n: usize, seed: u64, draws: usize) -> bool
     ensures { result ≡ out_of_range n seed draws }
 {
     if n < 2 {
@@ -98,7 +100,7 @@ pub fn is_wrong(r: Request) -> bool
     ensures { result ≡ wrong r }
 {
     match r {
-        Request::Load { n, seed, draws } => when_out_of_range(n, seed, draws),
+        Request::Load { n, seed, draws } => out_of_range(n, seed, draws),
         Request::Other => true,
     }
 }

@@ -1,4 +1,6 @@
 //! Who may say what: the topic of a body, the group of a topic, and whether a class of nodes lacks the right to send a body, by a table of rights.
+#![tactic(auto)]
+
 ghost use Rattle.std.specs.Prelude.{◌≡◌};
 ghost use Rattle.rights.specs.Topics.{topic, group};
 ghost use Rattle.rights.specs.Rights.{place, lacks_right};

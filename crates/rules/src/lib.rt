@@ -1,5 +1,7 @@
 //! The record rules: whether n, me and cap are in range, whether matrix and vector keep the rules, and whether a count is at its limit.
 //! Passes have no early exit, since a record is sound nearly always.
+#![tactic(auto)]
+
 ghost use Rattle.std.specs.Prelude.{◌≡◌, ◌&&◌, ◌||◌, ◌+◌, ◌*◌, ◌≤◌, ◌<◌, eqb, leb, ltb, length};
 ghost use Rattle.wire.specs.Limits.{max_count};
 ghost use Rattle.matrix.specs.Array.{entry, vector};

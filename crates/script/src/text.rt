@@ -38,7 +38,7 @@ pub fn byte(n: usize) -> u8
 }
 
 /// A command: its letter, 0 of an empty line, and its numbers.
-#[derive(Drop)]
+#[derive(Clone, Copy)]
 pub struct Line {
     pub what: u8,
     pub a: usize,
@@ -51,7 +51,7 @@ pub struct Line {
 }
 
 // The field that a line is at, and the number so far of the one that is sought.
-#[derive(Drop)]
+#[derive(Clone, Copy)]
 struct Scan {
     at: usize,
     v: usize,

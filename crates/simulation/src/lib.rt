@@ -1,4 +1,6 @@
 //! The yard: parses its input line by line, steps the world, counts and prints.
+#![tactic(auto)]
+
 pub mod line;
 pub mod print;
 
@@ -35,7 +37,7 @@ const QUEUES_SIZE: usize = Node::QUEUE_SIZE * world::MAX_SIMULATED;
 const LOG_SIZE: usize = Node::MAX_FRAME * MAX_ISSUES + Node::OUT_SIZE;
 
 /// What a line leaves: the yard, and where what it printed ends.
-#[derive(Drop)]
+#[derive(Clone, Copy)]
 pub struct Taken {
     pub yard: State,
     pub end: usize,

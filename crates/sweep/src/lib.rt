@@ -1,4 +1,6 @@
 //! The load: the same draws under each cap, and the table of what they counted.
+#![tactic(auto)]
+
 mod draw;
 mod table;
 

@@ -1,4 +1,6 @@
 //! Text of ASCII bytes: pieces parted by a byte (lines, fields), decimal numbers read and written. Nothing here knows of nodes.
+#![tactic(auto)]
+
 ghost use Rattle.std.specs.Prelude.{◌≡◌, ◌+◌, ◌-◌, ◌*◌, ◌≤◌, ◌<◌, length, take, drop};
 ghost use Rattle.text.specs.Before.{before};
 ghost use Rattle.text.specs.Fields.{is_digit, value};
@@ -6,14 +8,14 @@ ghost use Rattle.text.specs.Print.{decimal, line_end, row, number_row, refusal_r
 ghost use Rattle.text.specs.Wrote.{Wrote};
 
 /// What a field says: a number, or none.
-#[derive(Drop)]
+#[derive(Clone, Copy)]
 pub enum Number {
     Is(u64),
     Not,
 }
 
 /// What a run that prints answers: that its output is too short, or how many bytes it wrote.
-#[derive(Drop)]
+#[derive(Clone, Copy)]
 pub enum Ran {
     TooShort,
     Written(usize),

@@ -10,7 +10,7 @@ pub const MAX_WINDOW: usize = 64;
 
 /// A walk's place: what lies in front of `end` has not been shown. `kinds` has the kinds of the frames shown last, the last one's in bit 0,
 /// 1 for an extra frame; `extras` counts the extra frames among the last w, and `most` is the largest such count so far.
-#[derive(Drop)]
+#[derive(Clone, Copy)]
 pub struct Cursor {
     pub end: usize,
     pub w: usize,
@@ -21,7 +21,7 @@ pub struct Cursor {
 
 /// What a step answers: a refusal's number, that the walk has reached the file's start, with the largest count,
 /// or the start and length of the frame shown and the next cursor.
-#[derive(Drop)]
+#[derive(Clone, Copy)]
 pub enum StepAnswer {
     Refused(u8),
     End(usize),
@@ -33,7 +33,7 @@ pub enum StepAnswer {
 }
 
 /// What a whole walk answers: a refusal's number, or the largest count of extra frames in a window.
-#[derive(Drop)]
+#[derive(Clone, Copy)]
 pub enum WalkAnswer {
     Refused(u8),
     Largest(usize),

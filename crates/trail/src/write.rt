@@ -3,7 +3,7 @@ ghost use Rattle.std.specs.Prelude.{◌≡◌};
 ghost use Rattle.trail.specs.Write.{after_write, write_call};
 
 /// What a write answers: a refusal's number, or how many bytes are in use now.
-#[derive(Drop)]
+#[derive(Clone, Copy)]
 pub enum WriteAnswer {
     Refused(u8),
     Written(usize),

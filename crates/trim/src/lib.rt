@@ -1,4 +1,6 @@
 //! Trim: extra frames for the fullest columns, until at most cap entries of the matrix are non-zero.
+#![tactic(auto)]
+
 ghost use Rattle.std.specs.Prelude.{◌≡◌, List, ℕ, ◌+◌, ◌≤◌, ◌<◌, length};
 ghost use Rattle.wire.specs.Limits.{max_count};
 ghost use Rattle.wire.specs.Bytes.{put};
@@ -12,7 +14,7 @@ ghost use Rattle.frame.specs.Frames.{frames_of};
 use frame::write::Address;
 
 /// The frames that a trim issued: the place after them, and how many they are.
-#[derive(Drop)]
+#[derive(Clone, Copy)]
 pub struct Issued {
     pub at: usize,
     pub extras: u32,

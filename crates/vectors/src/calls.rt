@@ -1,21 +1,23 @@
 //! The node's four calls, made on the script's records and queues, and their answers printed.
 //! Outputs are lent full of the byte 165, so that what a call leaves as it was can be told.
-ghost use Rattle.std.specs.Prelude.{◌≤◌};
+ghost use Rattle.std.specs.Prelude.{◌≤◌, IfOk};
 
 use super::{print, show};
 use node::{DeliverAnswer, Delivered, Node, OfferAnswer, SendAnswer, SetUpAnswer};
 use script::state::Cells;
 use script::text::Line;
 use script::{state, text};
+use std::io;
+use std::io::Write;
 
 /// Set-up into record a.
-pub fn set_up(s: &mut Cells, l: Line) {
+pub fn set_up<W: Write>(w: &mut W, s: &mut Cells, l: Line) -> io::Result<()> {
     let r = Node::set_up(l.b, l.c, l.d);
     state::store(s, l.a, r.node);
     let answer = r.answer;
     match answer {
-        SetUpAnswer::Refused(why) => print::print(b"  refused %\n", text::wide(why), 0, 0),
-        SetUpAnswer::Ready => print::say(b"  ready\n"),
+        SetUpAnswer::Refused(why) => writeln!(w, "  refused {why}"),
+        SetUpAnswer::Ready => writeln!(w, "  ready"),
     }
 }
 
@@ -43,7 +45,7 @@ fn keep(
 }
 
 /// Send from record a to node b, with a body of c bytes and an output of d, by class e; the body begins with the topic f.
-pub fn send(s: &mut Cells, l: Line) {
+pub fn send<W: Write>(w: &mut W, s: &mut Cells, l: Line) -> io::Result<()> {
     let held = queue(s, l.a);
     let mut pattern = text::pattern();
     pattern[0] = text::byte(l.f);
@@ -55,16 +57,16 @@ pub fn send(s: &mut Cells, l: Line) {
     keep(s, l.a, r.node, &held, &out, &body);
     let answer = r.answer;
     match answer {
-        SendAnswer::Refused(why) => refused(s, why),
+        SendAnswer::Refused(why) => refused(w, s, why),
         SendAnswer::Sent { bytes, extras } => {
-            sent(s, bytes, extras);
-            log_frames(s, bytes);
+            sent(w, s, bytes, extras)?;
+            log_frames(w, s, bytes)
         }
     }
 }
 
 /// Offer of the frame at hand at record a, with a queue of length b.
-pub fn offer(s: &mut Cells, l: Line) {
+pub fn offer<W: Write>(w: &mut W, s: &mut Cells, l: Line) -> io::Result<()> {
     let mut held = queue(s, l.a);
     let q = text::within(&held, l.b);
     let mut frame = [0u8; 1100];
@@ -76,13 +78,13 @@ pub fn offer(s: &mut Cells, l: Line) {
     keep(s, l.a, r.node, &held, &out, &body);
     let answer = r.answer;
     match answer {
-        OfferAnswer::Refused(why) => refused(s, why),
-        OfferAnswer::Held { count, ready } => waits(count, ready),
+        OfferAnswer::Refused(why) => refused(w, s, why),
+        OfferAnswer::Held { count, ready } => waits(w, count, ready),
     }
 }
 
 /// Deliver at record a, with a queue of length b, an output of c and a body output of d.
-pub fn deliver(s: &mut Cells, l: Line) {
+pub fn deliver<W: Write>(w: &mut W, s: &mut Cells, l: Line) -> io::Result<()> {
     let mut held = queue(s, l.a);
     let q = text::within(&held, l.b);
     let mut out = [165u8; 4096];
@@ -93,11 +95,11 @@ pub fn deliver(s: &mut Cells, l: Line) {
     keep(s, l.a, r.node, &held, &out, &body);
     let answer = r.answer;
     match answer {
-        DeliverAnswer::Refused(why) => refused(s, why),
-        DeliverAnswer::Nothing(tried) => nothing(s, tried),
+        DeliverAnswer::Refused(why) => refused(w, s, why),
+        DeliverAnswer::Nothing(tried) => nothing(w, s, tried),
         DeliverAnswer::Frame(d) => {
-            delivered(s, d);
-            log_frames(s, d.bytes);
+            delivered(w, s, d)?;
+            log_frames(w, s, d.bytes)
         }
     }
 }
@@ -108,90 +110,95 @@ fn kept(s: &Cells) -> bool {
 }
 
 // Prints a refusal.
-fn refused(s: &Cells, why: u8) {
-    print::print(b"  refused %", text::wide(why), 0, 0);
+fn refused<W: Write>(w: &mut W, s: &Cells, why: u8) -> io::Result<()> {
     if kept(s) {
-        print::say(b", all kept\n");
+        writeln!(w, "  refused {why}, all kept")
     } else {
-        print::say(b", CHANGED\n");
+        writeln!(w, "  refused {why}, CHANGED")
     }
 }
 
 // Ends a line, and tells where a call wrote more than its answer counts.
-fn end(within: bool) {
+fn end<W: Write>(w: &mut W, within: bool) -> io::Result<()> {
     if within {
-        print::say(b"\n");
+        writeln!(w)
     } else {
-        print::say(b", MORE WRITTEN\n");
+        writeln!(w, ", MORE WRITTEN")
     }
 }
 
 // Prints what was sent.
-fn sent(s: &Cells, bytes: usize, extras: usize) {
-    print::print(b"  sent: bytes %, extras %", bytes, extras, 0);
-    end(state::filled(s, state::OUT, bytes, 4096, 165));
+fn sent<W: Write>(w: &mut W, s: &Cells, bytes: usize, extras: usize) -> io::Result<()> {
+    write!(w, "  sent: bytes {bytes}, extras {extras}")?;
+    end(w, state::filled(s, state::OUT, bytes, 4096, 165))
 }
 
 // Prints that a frame is held.
-fn waits(count: usize, ready: bool) {
-    print::print(b"  held: %", count, 0, 0);
+fn waits<W: Write>(w: &mut W, count: usize, ready: bool) -> io::Result<()> {
     if ready {
-        print::say(b", deliverable\n");
+        writeln!(w, "  held: {count}, deliverable")
     } else {
-        print::say(b", waits\n");
+        writeln!(w, "  held: {count}, waits")
     }
 }
 
 // Prints that no held frame is deliverable.
-fn nothing(s: &Cells, tried: usize) {
-    print::print(b"  none: tried %", tried, 0, 0);
-    end(kept(s));
+fn nothing<W: Write>(w: &mut W, s: &Cells, tried: usize) -> io::Result<()> {
+    write!(w, "  none: tried {tried}")?;
+    end(w, kept(s))
 }
 
 // Prints a delivery and its body.
-fn delivered(s: &Cells, d: Delivered) {
-    if d.kind == 1 {
-        print::say(b"  delivered: user");
-    } else {
-        print::say(b"  delivered: extra");
-    }
-    print::print(
-        b" from %, number %, tried %",
-        text::wide(d.from),
-        text::wide32(d.number),
-        d.tried,
-    );
-    print::print(b", body %, bytes %, extras %", d.body, d.bytes, d.extras);
+fn delivered<W: Write>(w: &mut W, s: &Cells, d: Delivered) -> io::Result<()> {
+    let Delivered {
+        kind,
+        from,
+        number,
+        tried,
+        body,
+        bytes,
+        extras,
+    } = d;
+    let kind = if kind == 1 { "user" } else { "extra" };
+    write!(
+        w,
+        "  delivered: {kind} from {from}, number {number}, tried {tried}"
+    )?;
+    write!(w, ", body {body}, bytes {bytes}, extras {extras}")?;
     end(
-        state::filled(s, state::OUT, d.bytes, 4096, 165)
-            && state::filled(s, state::BODY, d.body, 128, 165),
-    );
-    if 0 < d.body {
-        print::say(b"  body:");
-        print::hex(s, state::BODY, 0, d.body, 128, 128);
-        print::say(b"\n");
+        w,
+        state::filled(s, state::OUT, bytes, 4096, 165)
+            && state::filled(s, state::BODY, body, 128, 165),
+    )?;
+    if 0 < body {
+        write!(w, "  body:")?;
+        print::hex(w, s, state::BODY, 0, body, 128, 128)?;
+        writeln!(w)?;
     }
+    Ok(())
 }
 
 // Puts the issued frame at a into the log, prints it with its number there, and tells its length.
-fn log_frame(s: &mut Cells, a: usize) -> usize
-    ensures lower_bound { 12 ≤ result }
-    ensures upper_bound { result ≤ 2000 }
+fn log_frame<W: Write>(w: &mut W, s: &mut Cells, a: usize) -> io::Result<usize>
+    ensures lower_bound { IfOk result (λ z. 12 ≤ z) }
+    ensures upper_bound { IfOk result (λ z. z ≤ 2000) }
 {
     let i = state::at(s, state::COUNT, 0) % 128;
     let z = state::frame_length(s, a);
-    print::print(b"  %:", i + 1, 0, 0);
-    show::print_frame(s, a, z);
+    let issue = i + 1;
+    write!(w, "  {issue}:")?;
+    show::print_frame(w, s, a, z)?;
     state::copy(s, state::LOG + 802 * i, 802, a, z);
-    state::put(s, state::COUNT, 0, i + 1);
-    z
+    state::put(s, state::COUNT, 0, issue);
+    Ok(z)
 }
 
 // Takes the frames that a call issued apart, by their own lengths.
-fn log_frames(s: &mut Cells, bytes: usize) {
+fn log_frames<W: Write>(w: &mut W, s: &mut Cells, bytes: usize) -> io::Result<()> {
     let n = text::least(bytes, 4096);
     let mut i: usize = 0;
     while i < n {
-        i += log_frame(s, state::OUT + i);
+        i += log_frame(w, s, state::OUT + i)?;
     }
+    Ok(())
 }

@@ -22,6 +22,8 @@
 //!
 //! A frame is printed in base 16: header, entries, body and trailer parted by spaces. A refusal is printed with `all kept` where record and lent buffers are as
 //! they were, and with `CHANGED` otherwise; an answer whose call wrote more than it counts is marked `MORE WRITTEN`.
+#![tactic(auto)]
+
 mod calls;
 mod print;
 mod show;
@@ -29,6 +31,11 @@ mod show;
 use script::state::Cells;
 use script::text::Line;
 use script::{frames, state, text};
+use std::io;
+use std::io::{BufWriter, Read, Write};
+
+/// Bytes of a script at most: what stands behind them is not read.
+const MAX_SCRIPT: u64 = 65_536;
 
 // Writes the small numbers of record a.
 fn small(s: &mut Cells, l: Line) {
@@ -53,27 +60,23 @@ fn place(x: usize, y: usize) -> usize {
 
 // Writes e at M[x,b] of record a for each row x from c to d but b.
 fn column(s: &mut Cells, l: Line) {
-    let last = text::least(l.d, 11);
-    let mut x = l.c;
-    while x <= last {
+    for x in l.c..=text::least(l.d, 11) {
         if x != l.b {
             count(s, l.a, place(x, l.b), l.e);
         }
-        x += 1;
     }
 }
 
 // Runs a command.
-fn run(s: &mut Cells, l: Line) {
-    let what = l.what;
-    match what {
+fn run<W: Write>(w: &mut W, s: &mut Cells, l: Line) -> io::Result<()> {
+    match l.what {
         b'Z' => state::copy(s, 0, state::ALL, 0, 0),
-        b'U' => calls::set_up(s, l),
-        b'S' => calls::send(s, l),
-        b'O' => calls::offer(s, l),
-        b'D' => calls::deliver(s, l),
-        b'R' => show::show_record(s, l.a),
-        b'K' => show::show_queue(s, l.a),
+        b'U' => calls::set_up(w, s, l)?,
+        b'S' => calls::send(w, s, l)?,
+        b'O' => calls::offer(w, s, l)?,
+        b'D' => calls::deliver(w, s, l)?,
+        b'R' => show::show_record(w, s, l.a)?,
+        b'K' => show::show_queue(w, s, l.a)?,
         b'I' => small(s, l),
         b'M' => count(s, l.a, place(l.b, l.c), l.d),
         b'V' => count(s, l.a, 148 + l.b % 12, l.c),
@@ -85,29 +88,28 @@ fn run(s: &mut Cells, l: Line) {
         b'E' => frames::entry(s, l),
         b'B' => state::put(s, state::FRAME, l.a, l.b % 256),
         b'L' => state::put(s, state::LENGTH, 0, l.a),
-        b'T' => show::close_frame(s),
+        b'T' => show::close_frame(w, s)?,
         _ => (),
     }
+    Ok(())
 }
 
-// Prints each line of a script and runs its command.
-fn run_lines(s: &mut Cells, input: &[u8]) {
-    let mut start: usize = 0;
-    let mut i: usize = 0;
-    while i < input.len() {
-        let at = i;
-        i += 1;
-        if input[at] == b'\n' {
-            print::say(&input[start..i]);
-            run(s, text::command(&input[start..at]));
-            start = i;
+// Prints each line of a script and runs its command; a last line without its line feed is left out.
+fn run_lines<W: Write>(w: &mut W, s: &mut Cells, script: &[u8]) -> io::Result<()> {
+    for line in script.split_inclusive(|byte| *byte == b'\n') {
+        if let Some(words) = line.strip_suffix(b"\n") {
+            w.write_all(line)?;
+            run(w, s, text::command(words))?;
         }
     }
+    Ok(())
 }
 
-fn main() {
-    let mut input = io::large_buffer();
-    let n = io::read_full(0, &mut input);
+fn main(rt: HostRuntime) -> io::Result<()> {
+    let mut script = Vec::new(rt.alloc());
+    rt.reader().take(MAX_SCRIPT).read_to_end(&mut script)?;
+    let mut w = BufWriter::new(rt.alloc(), io::writer(&rt))?;
     let mut cells = [0usize; state::ALL];
-    run_lines(&mut cells, &input[..n]);
+    run_lines(&mut w, &mut cells, script.as_slice())?;
+    w.flush()
 }

@@ -1,4 +1,6 @@
 //! Runs of bytes: the limits, little-endian fields, the checksum and the trailer. Nothing here knows of nodes or frames.
+#![tactic(auto)]
+
 ghost use Rattle.std.specs.Prelude.{◌≡◌, ◌+◌, ◌-◌, ◌*◌, ◌%◌, ◌<◌, ◌≤◌, length, take, drop};
 ghost use Rattle.wire.specs.Limits.{max_nodes, max_held, max_body, max_frame, max_count};
 ghost use Rattle.wire.specs.Bytes.{put, le16, le32, u16_at, u32_at};
@@ -20,7 +22,7 @@ pub const MAX_FRAME: usize = 802;
 pub const MAX_COUNT: u32 = 1_000_000_000;
 
 /// The five limits together.
-#[derive(Drop)]
+#[derive(Clone, Copy)]
 pub struct Limits {
     pub nodes: usize,
     pub held: usize,

@@ -1,4 +1,6 @@
 //! Marsaglia's 32-bit xorshift, a generator of numbers that anyone can repeat.
+#![tactic(auto)]
+
 ghost use Rattle.std.specs.Prelude.{◌≡◌};
 ghost use Rattle.xorshift.specs.Xorshift.{next};
 

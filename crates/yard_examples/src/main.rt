@@ -1,35 +1,32 @@
 //! Runs the yard on each file that an argument names, and writes the file's name and what the yard prints.
+#![tactic(auto)]
+
+use std::fs::File;
+use std::io::{Read, Write};
+use std::{env, io};
 use text::Ran;
 
-// One file.
-fn one(k: usize) {
-    let mut path = io::buffer();
-    let length = os::arg(k, &mut path);
-    io::write_all(1, &path[..length]);
-    io::write_all(1, b"\n");
-    let fd = os::open_read(&path[..length]);
-    if fd < 0 {
-        os::fail(&path[..length]);
-        return;
-    }
-    let mut input = [0u8; simulation::MAX_INPUT + 1];
-    let n = io::read_full(fd, &mut input);
-    libc::close(fd);
+// One file. One that cannot be opened is named on standard error, with the reason.
+fn one(rt: &HostRuntime, path: &str) -> io::Result<()> {
+    println!(rt; "{path}")?;
+    let file = match File::open(rt, path) {
+        Ok(file) => file,
+        Err(why) => return eprintln!(rt; "{path}: {why}"),
+    };
+    let mut input = Vec::new(rt.alloc());
+    file.take(simulation::MAX_INPUT as u64 + 1)
+        .read_to_end(&mut input)?;
     let mut out = [0u8; simulation::OUTPUT_SIZE];
-    let ran = simulation::run(&input[..n], &mut out);
+    let ran = simulation::run(input.as_slice(), &mut out);
     match ran {
-        Ran::TooShort => {}
-        Ran::Written(m) => {
-            io::write_all(1, &out[..m]);
-        }
+        Ran::TooShort => Ok(()),
+        Ran::Written(k) => io::writer(rt).write_all(&out[..k]),
     }
 }
 
-fn main() {
-    let mut k: usize = 1;
-    let count = os::arg_count();
-    while k < count {
-        one(k);
-        k += 1;
+fn main(rt: HostRuntime) -> io::Result<()> {
+    for path in env::args(&rt)?.skip(1) {
+        one(&rt, path.as_str())?;
     }
+    Ok(())
 }
