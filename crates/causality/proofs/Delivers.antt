@@ -23,7 +23,7 @@ use Rattle.holdback.specs.Slots.{held_messages, laid, queue_size, without}
 use Rattle.matrix.specs.Matrix.{Matrix, merge}
 use Rattle.matrix.specs.Message.{Kind, Message, extra, user}
 use Rattle.node.specs.Answers.{AfterDeliver}
-use Rattle.node.specs.Calls.{accept_deliver, deliver_call, refuse_deliver, refusal as refusalOf}
+use Rattle.node.specs.Calls.{accept_deliver, deliver_call, refuse_deliver, refusal as refusal_of}
 use Rattle.node.specs.Sizes.{out_size}
 use Rattle.node.specs.Record.{broken_record, node_of}
 use Rattle.protocol.proofs.Bounds.{below-limit, entry_bound}
@@ -94,7 +94,7 @@ module _ (n : ℕ) (caps : ℕ → ℕ) (w : messages.World) (g : Good n caps w)
   -- the last step of the call
   abbrev settle : List ℕ → List ℕ → protocol.Outcome → AfterDeliver
   settle out body o =
-      cond (protocol.accepted o.answer) (accept_deliver r q out body o (protocol.delivery o.answer)) (refuse_deliver (refusalOf o.answer) r q out body)
+      cond (protocol.accepted o.answer) (accept_deliver r q out body o (protocol.delivery o.answer)) (refuse_deliver (refusal_of o.answer) r q out body)
 
   -- what the delivery of a held message issues has room in 2,048 bytes
   room : (h : ℕ) (m : Message) → get_elem? (w.nodes i).held h ≡ some m → length (frames_of (learn m.kind d m.entries).extras) ≤ 846

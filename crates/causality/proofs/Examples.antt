@@ -34,7 +34,7 @@ use Rattle.protocol.specs.Offer.{deliverable}
 use Rattle.protocol.specs.Trim.{trim_for}
 use Rattle.rights.specs.Ours.{ours}
 use Rattle.rights.specs.Rights.{camera, lacks_right, mover, panel}
-use Rattle.rights.specs.Topics.{group, motion}
+use Rattle.rights.specs.Topics.{group}
 use Rattle.wire.proofs.Bytes.{small_bytes}
 use Rattle.wire.specs.Bytes.{le16, le32, u16_at, u32_at}
 use Rattle.wire.specs.Trailer.{checksum, count_back, has_trailer, sealed, sum_back, trailer}
@@ -197,7 +197,7 @@ story-rights = rights_kept 3 caps range story story-bodies (omega arith)
 
 pub story-mover : (class : ℕ) → SentBy (after story) (issued_by 0 closing_frame) class → class ≡ mover
 unfolding header decode entries_from entry_at u32_at matrix_of group
-story-mover class sentBy = story-rights.motion 0 class (issued_by 0 closing_frame) (rw story-frames refl) refl sentBy refl
+story-mover class sent_by = story-rights.motion 0 class (issued_by 0 closing_frame) (rw story-frames refl) refl sent_by refl
 
 -- ---- an extra frame: after its second delivery four entries stand at node 0, a tie, and an extra frame goes to node 1, which delivers it
 unfoldable pub tie : List Step

@@ -20,7 +20,7 @@ use Rattle.holdback.specs.WrongQueue.{wrong_queue}
 use Rattle.holdback.specs.Slots.{held_messages, laid, queue_size}
 use Rattle.matrix.specs.Message.{Message}
 use Rattle.node.specs.Answers.{AfterOffer}
-use Rattle.node.specs.Calls.{accept_offer, offer_call, refuse_offer, refusal as refusalOf}
+use Rattle.node.specs.Calls.{accept_offer, offer_call, refuse_offer, refusal as refusal_of}
 use Rattle.node.specs.Record.{broken_record, node_of}
 use Rattle.protocol.proofs.Bounds.{claims_little}
 use Rattle.protocol.proofs.Good.{Good}
@@ -85,7 +85,7 @@ module _ (n : ℕ) (caps : ℕ → ℕ) (w : messages.World) (g : Good n caps w)
 
   -- the last step of the call
   abbrev settle : List ℕ → protocol.Outcome → AfterOffer
-  settle s o = cond (protocol.accepted o.answer) (accept_offer r s q o) (refuse_offer (refusalOf o.answer) r q)
+  settle s o = cond (protocol.accepted o.answer) (accept_offer r s q o) (refuse_offer (refusal_of o.answer) r q)
 
   says_no : (k : ℕ) → T (not (eqb k 0)) → Expected (offered (answer.Refused k)) → SaysNo (offered (answer.Refused k))
   says_no k t x = record { refuses = is_false (eqb k 0) t; nothing = refl; holds = refl; gives = refl; counts = refl; extras = refl; users = refl; expected = x }

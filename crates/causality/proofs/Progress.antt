@@ -127,15 +127,15 @@ module _ (n : ℕ) (caps : ℕ → ℕ) (w : messages.World) (b : World) (g : Go
   -- record and queue of node j agree with the history
   module _ (j : ℕ) (hj : j < n) where
     -- the messages held
-    abbrev heldThere : List Message
-    heldThere = (w.nodes j).held
+    abbrev held_there : List Message
+    held_there = (w.nodes j).held
 
-    queued-frames : queued b j ≡ map encode heldThere
+    queued-frames : queued b j ≡ map encode held_there
     queued-frames =
         ap₂ (λ (r : Record) (q : List ℕ). held_frames r.held q) (m.records j hj) (m.queues j hj) ∙ frames-back n caps w g few m.bodies j hj
 
-    held-message : (h : ℕ) (s : List ℕ) → get_elem? (queued b j) h ≡ some s → (f : Message) × (get_elem? heldThere h ≡ some f) × (encode f ≡ s)
-    held-message h s a = map_at encode heldThere h s (ap (λ (l : List (List ℕ)). get_elem? l h) (sym queued-frames) ∙ a)
+    held-message : (h : ℕ) (s : List ℕ) → get_elem? (queued b j) h ≡ some s → (f : Message) × (get_elem? held_there h ≡ some f) × (encode f ≡ s)
+    held-message h s a = map_at encode held_there h s (ap (λ (l : List (List ℕ)). get_elem? l h) (sym queued-frames) ∙ a)
 
     pub held-agrees : HeldAgrees b j
     held-agrees = record {
@@ -165,7 +165,7 @@ module _ (n : ℕ) (caps : ℕ → ℕ) (w : messages.World) (b : World) (g : Go
             subst (λ (z : Issue). destination z.frame ≡ j → Held b p z.frame → (h : ℕ) × (get_elem? (queued b j) h ≡ some z.frame)) f.2
             (λ to h. let r = (t.queue j hj).all p f.0 f.1 (sym (to-encode f.0.message) ∙ to)
             (held_back n w b m sound p f.0.message (sound p f.0 f.1) h) in
-            (r.0, ap (λ (l : List (List ℕ)). get_elem? l r.0) queued-frames ∙ at_map encode heldThere r.0 f.0.message r.1))
+            (r.0, ap (λ (l : List (List ℕ)). get_elem? l r.0) queued-frames ∙ at_map encode held_there r.0 f.0.message r.1))
 
         apart : (h k : ℕ) (s : List ℕ) → get_elem? (queued b j) h ≡ some s → get_elem? (queued b j) k ≡ some s → h ≡ k
         apart h k s a c =

@@ -55,27 +55,27 @@ module _ (n : ℕ) (caps : ℕ → ℕ) (w : messages.World) (g : Good n caps w)
   -- node i
   module _ (i : ℕ) (hi : i < n) where
     -- the messages held
-    abbrev pub heldHere : List Message
-    heldHere = (w.nodes i).held
+    abbrev pub held_here : List Message
+    held_here = (w.nodes i).held
 
     -- the queue as bytes
-    abbrev pub queueHere : List ℕ
-    queueHere = laid (map encode heldHere)
+    abbrev pub queue_here : List ℕ
+    queue_here = laid (map encode held_here)
 
     -- a held message was issued
-    origin : (h : ℕ) (m : Message) → get_elem? heldHere h ≡ some m → Origin w.log w.history m
+    origin : (h : ℕ) (m : Message) → get_elem? held_here h ≡ some m → Origin w.log w.history m
     origin h m a = (g.node i hi).queue.from h m a
 
-    pub held-sound : EachAt Sound heldHere
+    pub held-sound : EachAt Sound held_here
     held-sound h m a = let o = origin h m a in subst Sound o.message (sound-issue o.issue o.g o.logged)
 
-    held-passes : (h : ℕ) (m : Message) → get_elem? heldHere h ≡ some m → frame_refusal n (encode m) ≡ 0
+    held-passes : (h : ℕ) (m : Message) → get_elem? held_here h ≡ some m → frame_refusal n (encode m) ≡ 0
     held-passes h m a =
         let o = origin h m a in
         subst (λ (z : Message). frame_refusal n (encode z) ≡ 0) o.message (frame-passes o.issue o.g o.logged)
 
     -- 12 to 14 are not met
-    held-arrives : (h : ℕ) (m : Message) → get_elem? heldHere h ≡ some m → arrival_refusal (alone n caps w g few i hi) m ≡ 0
+    held-arrives : (h : ℕ) (m : Message) → get_elem? held_here h ≡ some m → arrival_refusal (alone n caps w g few i hi) m ≡ 0
     held-arrives h m a =
         let o = origin h m a in
         arrives_back (alone n caps w g few i hi) m
@@ -88,35 +88,35 @@ module _ (n : ℕ) (caps : ℕ → ℕ) (w : messages.World) (g : Good n caps w)
         }
 
     -- a held frame would meet none of 8 to 14
-    frames-kept : EachFrame (FrameKept (alone n caps w g few i hi)) (map encode heldHere)
+    frames-kept : EachFrame (FrameKept (alone n caps w g few i hi)) (map encode held_here)
     frames-kept h s a =
-        let x = map_at encode heldHere h s a in
+        let x = map_at encode held_here h s a in
         let d : MessageNode = alone n caps w g few i hi in
         subst (FrameKept d) x.2 (record {
           passes = held-passes h x.0 x.1;
           arrives = ap (arrival_refusal d) (decode-encode x.0 (held-sound h x.0 x.1)) ∙ held-arrives h x.0 x.1;
         })
 
-    framed : EachFramed (map encode heldHere)
-    framed = framed_all (alone n caps w g few i hi) (map encode heldHere) frames-kept
+    framed : EachFramed (map encode held_here)
+    framed = framed_all (alone n caps w g few i hi) (map encode held_here) frames-kept
 
-    room : length (map encode heldHere) ≤ 16
-    room = omega (arith, length-map heldHere encode, (g.node i hi).queue.room)
+    room : length (map encode held_here) ≤ 16
+    room = omega (arith, length-map held_here encode, (g.node i hi).queue.room)
 
     -- the queue is read back
-    pub frames-back : held_frames (length heldHere) queueHere ≡ map encode heldHere
-    frames-back = ap (λ (k : ℕ). held_frames k queueHere) (sym (length-map heldHere encode)) ∙ held-slots 16 (map encode heldHere) room framed
+    pub frames-back : held_frames (length held_here) queue_here ≡ map encode held_here
+    frames-back = ap (λ (k : ℕ). held_frames k queue_here) (sym (length-map held_here encode)) ∙ held-slots 16 (map encode held_here) room framed
 
-    pub messages-back : held_messages (length heldHere) queueHere ≡ heldHere
-    messages-back = ap (map decode) frames-back ∙ decode-all heldHere held-sound
+    pub messages-back : held_messages (length held_here) queue_here ≡ held_here
+    messages-back = ap (map decode) frames-back ∙ decode-all held_here held-sound
 
-    pub queue-length : length queueHere ≡ queue_size
-    queue-length = length-slots 16 (map encode heldHere) (framed_fits (map encode heldHere) framed)
+    pub queue-length : length queue_here ≡ queue_size
+    queue-length = length-slots 16 (map encode held_here) (framed_fits (map encode held_here) framed)
 
     -- check 4 is not met
-    pub queue-here : T (not (wrong_queue (alone n caps w g few i hi) (length heldHere) queueHere))
+    pub queue-here : T (not (wrong_queue (alone n caps w g few i hi) (length held_here) queue_here))
     queue-here =
         let d : MessageNode = alone n caps w g few i hi in
-        of_false (wrong_queue d (length heldHere) queueHere)
-        (subst (λ (k : ℕ). wrong_queue d k queueHere ≡ false) (length-map heldHere encode)
-        (queue-right d (map encode heldHere) room frames-kept (subst Apart (sym (decode-all heldHere held-sound)) (g.node i hi).queue.distinct)))
+        of_false (wrong_queue d (length held_here) queue_here)
+        (subst (λ (k : ℕ). wrong_queue d k queue_here ≡ false) (length-map held_here encode)
+        (queue-right d (map encode held_here) room frames-kept (subst Apart (sym (decode-all held_here held-sound)) (g.node i hi).queue.distinct)))

@@ -20,7 +20,7 @@ use Rattle.holdback.specs.Slots.{laid}
 use Rattle.matrix.specs.Matrix.{clear}
 use Rattle.matrix.specs.Message.{Message}
 use Rattle.node.specs.Answers.{AfterSend}
-use Rattle.node.specs.Calls.{accept_send, permit_send, refuse_send, send_call, refusal as refusalOf}
+use Rattle.node.specs.Calls.{accept_send, permit_send, refuse_send, send_call, refusal as refusal_of}
 use Rattle.node.specs.Sizes.{out_size}
 use Rattle.node.specs.Record.{broken_record, node_of}
 use Rattle.protocol.proofs.Bounds.{below-limit}
@@ -108,7 +108,7 @@ module _ (n : ℕ) (caps : ℕ → ℕ) (w : messages.World) (g : Good n caps w)
   module _ (to class : ℕ) (body out : List ℕ) where
     -- what the call leaves, by what the protocol's send leaves
     abbrev settle : protocol.Outcome → AfterSend
-    settle o = cond (protocol.accepted o.answer) (permit_send r class body out o) (refuse_send (refusalOf o.answer) r out)
+    settle o = cond (protocol.accepted o.answer) (permit_send r class body out o) (refuse_send (refusal_of o.answer) r out)
 
     abbrev behind : AfterSend
     behind = cond (ltb (length out) out_size) (refuse_send 3 r out) (settle (send (node_of r []) to body))

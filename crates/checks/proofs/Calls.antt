@@ -1,12 +1,11 @@
 -- A call by its checks: what it gives where one is met, and where none is. Assumes nothing.
 use Prim.Native.Nat.{ℕ}
-use mathlib.Core.Bool.{Bool, true, false, cond}
+use mathlib.Core.Bool.{Bool, true, false}
 use mathlib.Core.List.{List, [], ◌∷◌}
-use mathlib.Core.Path.{◌≡◌, refl, sym, ap, subst, ◌∙◌}
-use native.Mathlib.Omega.{arith}
+use mathlib.Core.Path.{◌≡◌, refl, ap, subst, ◌∙◌}
 use native.Mathlib.Decide.{ℕ_discrete}
-use Rattle.checks.proofs.First.{Passed, Positive, by_number, first-given, first_gives, first-positive, here, none-met, passed, past}
-use Rattle.checks.specs.Checks.{Answers, Check, First, checked, first_met}
+use Rattle.checks.proofs.First.{Passed, Positive, first-given, here, passed, past}
+use Rattle.checks.specs.Checks.{Check, First, checked, first_met}
 
 -- a call whose first met check has number k, and one that meets none
 pub refused : {C : Type 0} (l : List Check) (f : ℕ → C) (a : C) (k : ℕ) → k ≡ first_met l → (k ≡ 0 → ⊥) → f k ≡ checked l f a
@@ -23,8 +22,8 @@ accepted (c ∷ l) f a p = rw p.0 (accepted l f a p.1)
 
 -- what holds of every refusal, and of what the call does where no check is met, holds of the call
 pub cases : {C : Type 0} (P : C → Type 0) (l : List Check) (f : ℕ → C) (a : C) → Positive l → ((k : ℕ) → First l k → P (f k)) → (Passed l → P a) → P (checked l f a)
-cases P l f a h no yes = go (ℕ_discrete (first_met l) 0)
+cases P l f a h refuses goes = go (ℕ_discrete (first_met l) 0)
   where
     go : Dec (first_met l ≡ 0) → P (checked l f a)
-    go (yes z) = subst P (accepted l f a (passed l h z)) (yes (passed l h z))
-    go (no z) = subst P (refused l f a (first_met l) refl z) (no (first_met l) (first-given l (first_met l) z refl))
+    go (yes z) = subst P (accepted l f a (passed l h z)) (goes (passed l h z))
+    go (no z) = subst P (refused l f a (first_met l) refl z) (refuses (first_met l) (first-given l (first_met l) z refl))

@@ -1,12 +1,12 @@
 -- The first check of a list that is met, both ways. Assumes nothing.
 use Prim.Native.Nat.{ℕ, ◌<◌}
-use mathlib.Core.Bool.{Bool, true, false, cond}
+use mathlib.Core.Bool.{Bool, true, false}
 use mathlib.Core.List.{List, [], ◌∷◌, ◌++◌}
 use mathlib.Core.Logic.{inl, inr}
-use mathlib.Core.Path.{◌≡◌, refl, sym, ap, ◌∙◌}
+use mathlib.Core.Path.{◌≡◌, refl, sym, ◌∙◌}
 use native.Mathlib.Omega.{arith}
 use Rattle.wire.proofs.Tests.{not-both}
-use Rattle.checks.specs.Checks.{Check, First, Met, NoneMet, Numbered, Rising, checked, first_met}
+use Rattle.checks.specs.Checks.{Check, First, Met, NoneMet, Numbered, Rising, first_met}
 
 -- no number of the list is 0
 abbrev pub Positive : List Check → Type 0

@@ -73,6 +73,8 @@ zero-split s zero high l = zero-front s high
 zero-split [] (suc low) (suc high) l = refl
 zero-split (b ∷ s) (suc low) (suc high) l =
     ap (λ (x : Bool). eqb b 0 && x) (zero-split s low high (omega arith)) ∙ sym (and_assoc (eqb b 0) (all_zero (take high s)) (all_zero (drop low s)))
+zero-split [] (suc low) zero l = elim l [ ]
+zero-split (b ∷ s) (suc low) zero l = elim l [ ]
 
 pub halves-start : (s : List ℕ) (low high : ℕ) → low ≤ high → all_zero s ≡ halves s low high 0
 unfolding halves

@@ -92,21 +92,21 @@ module _ (i : List ℕ) (to class : ℕ) (body out answer : List ℕ) where
   abbrev sent : SendLeft
   sent = send_told i answer (send_call (record_in i) to class body out) (send_call (record_in i) to class body out).result.answer
 
-  abbrev behindSend : ℕ
-  behindSend =
+  abbrev behind_send : ℕ
+  behind_send =
       let d : Node = node_of (record_in i) [] in
       cond (at_limit d) 5 (cond (bad_destination d to) 6 (cond (long_body body) 7 (cond (lacks_right ours class body) 21 0)))
 
   -- an answer that is too short counts as no room
-  abbrev pub sendRoom : ℕ
-  sendRoom = cond (ltb (length answer) answer_size) 0 (length out)
+  abbrev pub send_room : ℕ
+  send_room = cond (ltb (length answer) answer_size) 0 (length out)
 
   room-short : (s : Bool) → ltb (cond s 0 (length out)) out_size ≡ (s || ltb (length out) out_size)
   room-short true = refl
   room-short false = refl
 
-  send-first : send_refusal (record_in i) to class body sendRoom
-      ≡ cond (broken_record (record_in i)) 2 (cond (ltb (length answer) answer_size || ltb (length out) out_size) 3 behindSend)
+  send-first : send_refusal (record_in i) to class body send_room
+      ≡ cond (broken_record (record_in i)) 2 (cond (ltb (length answer) answer_size || ltb (length out) out_size) 3 behind_send)
   unfolding send_refusal
   send-first = rw (room-short (ltb (length answer) answer_size))
 
@@ -118,13 +118,13 @@ module _ (i : List ℕ) (to class : ℕ) (body out answer : List ℕ) where
   unfolding exported_send
   send_20 e = rw (bad-unsealed i e)
 
-  pub send-why : unsealed i ≡ false → (k : ℕ) → k ≡ send_refusal (record_in i) to class body sendRoom → (k ≡ 0 → ⊥)
+  pub send-why : unsealed i ≡ false → (k : ℕ) → k ≡ send_refusal (record_in i) to class body send_room → (k ≡ 0 → ⊥)
       → send_left (cond (eqb k 2) 20 k) i out answer ≡ exported_send i to class body out answer
   unfolding exported_send send_refusal
   send-why u k e h =
       let d : Node = node_of (record_in i) [] in
       rw (bad-sealed i u)
-      (refused-by (λ (j : ℕ). send_left j i out answer) sent (broken_record (record_in i)) (ltb (length answer) answer_size) (ltb (length out) out_size) behindSend
+      (refused-by (λ (j : ℕ). send_left j i out answer) sent (broken_record (record_in i)) (ltb (length answer) answer_size) (ltb (length out) out_size) behind_send
       (not-two (at_limit d) 5 _ (λ z. omega arith) (not-two (bad_destination d to) 6 _ (λ z. omega arith)
       (not-two (long_body body) 7 _ (λ z. omega arith) (not-two (lacks_right ours class body) 21 0 (λ z. omega arith) (λ z. omega arith))))) send-own k (e ∙ send-first) h)
 
@@ -134,10 +134,10 @@ module _ (i : List ℕ) (to class : ℕ) (body out answer : List ℕ) where
     pub passes : send_refusal (record_in i) to class body (length out) ≡ 0
     pub made : exported_send i to class body out answer ≡ sent
 
-  pub send-ready : unsealed i ≡ false → send_refusal (record_in i) to class body sendRoom ≡ 0 → SendReady
+  pub send-ready : unsealed i ≡ false → send_refusal (record_in i) to class body send_room ≡ 0 → SendReady
   unfolding exported_send send_refusal
   send-ready u e =
-      let p = passed-by (broken_record (record_in i)) (ltb (length answer) answer_size) (ltb (length out) out_size) behindSend (sym send-first ∙ e) in
+      let p = passed-by (broken_record (record_in i)) (ltb (length answer) answer_size) (ltb (length out) out_size) behind_send (sym send-first ∙ e) in
       record { long = p.answer; passes = p.call; made = rw (bad-sealed i u, p.record₀, p.answer) }
 
   pub send-done : SendReady → (bytes extras : ℕ) (m out₁ i₁ answer₁ : List ℕ)
@@ -179,8 +179,8 @@ module _ (i frame queue answer : List ℕ) where
   abbrev offered : OfferLeft
   offered = offer_told i answer (offer_call (record_in i) frame queue) (offer_call (record_in i) frame queue).result.answer
 
-  abbrev behindOffer : ℕ
-  behindOffer = cond (wrong_queue (node_of (record_in i) []) (record_in i).held queue) 4 (take_refusal (record_in i) frame queue)
+  abbrev behind_offer : ℕ
+  behind_offer = cond (wrong_queue (node_of (record_in i) []) (record_in i).held queue) 4 (take_refusal (record_in i) frame queue)
 
   -- the refusals of a frame that is offered are 8 to 16
   take-not-two : take_refusal (record_in i) frame queue ≡ 2 → ⊥
@@ -212,7 +212,7 @@ module _ (i frame queue answer : List ℕ) where
   offer-why u k e h =
       rw (bad-sealed i u)
       (refused-by (λ (j : ℕ). offer_left j i queue answer) offered (broken_record (record_in i)) (ltb (length answer) answer_size)
-      (not (eqb (length queue) queue_size)) behindOffer
+      (not (eqb (length queue) queue_size)) behind_offer
       (not-two (wrong_queue (node_of (record_in i) []) (record_in i).held queue) 4 _ (λ z. omega arith) take-not-two) offer-own k e h)
 
   -- what an offer that passed the checks knows
@@ -225,7 +225,7 @@ module _ (i frame queue answer : List ℕ) where
       → record_refusal (record_in i) queue (ltb (length answer) answer_size) (take_refusal (record_in i) frame queue) ≡ 0 → OfferReady
   unfolding exported_offer offer_refusal record_refusal
   offer-ready u e =
-      let p = passed-by (broken_record (record_in i)) (ltb (length answer) answer_size) (not (eqb (length queue) queue_size)) behindOffer e in
+      let p = passed-by (broken_record (record_in i)) (ltb (length answer) answer_size) (not (eqb (length queue) queue_size)) behind_offer e in
       record { long = p.answer; passes = p.call; made = rw (bad-sealed i u, p.record₀, p.answer) }
 
   pub offer-done : OfferReady → (count : ℕ) (ready : Bool) (held : ℕ) (queue₁ i₁ answer₁ : List ℕ)
@@ -245,16 +245,16 @@ module _ (i queue out body answer : List ℕ) where
   abbrev delivered : DeliverLeft
   delivered = deliver_told i answer (deliver_call (record_in i) queue out body) (deliver_call (record_in i) queue out body).result.answer
 
-  abbrev behindDeliver : ℕ
-  behindDeliver = cond (wrong_queue (node_of (record_in i) []) (record_in i).held queue) 4 (cond (at_limit (node_at (record_in i) queue)) 5 0)
+  abbrev behind_deliver : ℕ
+  behind_deliver = cond (wrong_queue (node_of (record_in i) []) (record_in i).held queue) 4 (cond (at_limit (node_at (record_in i) queue)) 5 0)
 
   -- the answer or an output is too short
-  abbrev pub shortLent : Bool
-  shortLent = ltb (length answer) answer_size || short_outputs (length out) (length body)
+  abbrev pub short_lent : Bool
+  short_lent = ltb (length answer) answer_size || short_outputs (length out) (length body)
 
-  deliver-first : deliver_refusal (record_in i) queue shortLent
+  deliver-first : deliver_refusal (record_in i) queue short_lent
       ≡ cond (broken_record (record_in i)) 2
-      (cond (ltb (length answer) answer_size || (short_outputs (length out) (length body) || not (eqb (length queue) queue_size))) 3 behindDeliver)
+      (cond (ltb (length answer) answer_size || (short_outputs (length out) (length body) || not (eqb (length queue) queue_size))) 3 behind_deliver)
   unfolding deliver_refusal record_refusal
   deliver-first = rw (or_assoc (ltb (length answer) answer_size) (short_outputs (length out) (length body)) (not (eqb (length queue) queue_size)))
 
@@ -266,13 +266,13 @@ module _ (i queue out body answer : List ℕ) where
   unfolding exported_deliver
   deliver_20 e = rw (bad-unsealed i e)
 
-  pub deliver-why : unsealed i ≡ false → (k : ℕ) → k ≡ deliver_refusal (record_in i) queue shortLent → (k ≡ 0 → ⊥)
+  pub deliver-why : unsealed i ≡ false → (k : ℕ) → k ≡ deliver_refusal (record_in i) queue short_lent → (k ≡ 0 → ⊥)
       → deliver_left (cond (eqb k 2) 20 k) i queue out body answer ≡ exported_deliver i queue out body answer
   unfolding exported_deliver deliver_refusal record_refusal
   deliver-why u k e h =
       rw (bad-sealed i u)
       (refused-by (λ (j : ℕ). deliver_left j i queue out body answer) delivered (broken_record (record_in i)) (ltb (length answer) answer_size)
-      (short_outputs (length out) (length body) || not (eqb (length queue) queue_size)) behindDeliver
+      (short_outputs (length out) (length body) || not (eqb (length queue) queue_size)) behind_deliver
       (not-two (wrong_queue (node_of (record_in i) []) (record_in i).held queue) 4 _ (λ z. omega arith)
       (not-two (at_limit (node_at (record_in i) queue)) 5 0 (λ z. omega arith) (λ z. omega arith))) deliver-own k (e ∙ deliver-first) h)
 
@@ -282,11 +282,11 @@ module _ (i queue out body answer : List ℕ) where
     pub passes : deliver_refusal (record_in i) queue (short_outputs (length out) (length body)) ≡ 0
     pub made : exported_deliver i queue out body answer ≡ delivered
 
-  pub deliver-ready : unsealed i ≡ false → deliver_refusal (record_in i) queue shortLent ≡ 0 → DeliverReady
+  pub deliver-ready : unsealed i ≡ false → deliver_refusal (record_in i) queue short_lent ≡ 0 → DeliverReady
   unfolding exported_deliver deliver_refusal record_refusal
   deliver-ready u e =
       let p = passed-by (broken_record (record_in i)) (ltb (length answer) answer_size)
-      (short_outputs (length out) (length body) || not (eqb (length queue) queue_size)) behindDeliver (sym deliver-first ∙ e) in
+      (short_outputs (length out) (length body) || not (eqb (length queue) queue_size)) behind_deliver (sym deliver-first ∙ e) in
       record { long = p.answer; passes = p.call; made = rw (bad-sealed i u, p.record₀, p.answer) }
 
   pub deliver-nothing : DeliverReady → (tried : ℕ) (answer₁ : List ℕ)

@@ -9,7 +9,7 @@ use Rattle.matrix.specs.Matrix.{count}
 use Rattle.protocol.proofs.Lists.{at_map, map_at}
 use Rattle.node.specs.declared.OfferAnswer.TheVariants as offer
 use Rattle.causality.specs.Ceiling.{extras, users_delivered, users_issued}
-use Rattle.causality.specs.Demand3.{Answer, DeliveredAt, Event, HappenedBefore, Held, Issue}
+use Rattle.causality.specs.Demand3.{Answer, DeliveredAt, Event, HappenedBefore, Issue}
 use Rattle.causality.specs.Demand3.{accepted, answers_at, chain, delivered, deliveries, delivery, message}
 use Rattle.causality.specs.Demand3.{offered, offers_accepted, refusal, same_node, sent, sum_over}
 use Rattle.causality.specs.ListRefusals.{Expected}

@@ -23,8 +23,8 @@ use Rattle.node.specs.declared.Node.{Node as Record}
 use Rattle.causality.specs.AcceptedOnce.{AcceptedOnceFor, Accepts}
 use Rattle.causality.specs.Ceiling.{CeilingFor, StepIssues, extras, users_delivered, users_issued}
 use Rattle.causality.specs.Demand3.{Delivered, Demand3For, DeliversNew, Earliest, Event, Held, HeldAgrees, Issue}
-use Rattle.causality.specs.Demand3.{World, accepted, delivered, deliveries, delivery, destination, held_at}
-use Rattle.causality.specs.Demand3.{offered, offers_accepted, queued, refusal}
+use Rattle.causality.specs.Demand3.{World, delivered, deliveries, delivery, destination, held_at}
+use Rattle.causality.specs.Demand3.{offers_accepted, queued, refusal}
 use Rattle.causality.specs.Rights.{RightsFor, SentBy}
 use Rattle.causality.specs.ListRefusals.{Expected, ListRefusalsFor, OneOf, impossible}
 use Rattle.image.proofs.Images.{image_laws}

@@ -132,8 +132,8 @@ module _ (r : Record) (h : SoundRecord r) (answer : List ℕ) (long : answer_siz
         × (e.queue ≡ c.queue) × (e.out ≡ c.out)
 
     -- what a delivery's answer names
-    abbrev deliveredFrame : Outcome → Label → Delivered
-    deliveredFrame o a =
+    abbrev delivered_frame : Outcome → Label → Delivered
+    delivered_frame o a =
         record {
           kind = kind_byte a.kind;
           from = a.from;
@@ -159,7 +159,7 @@ module _ (r : Record) (h : SoundRecord r) (answer : List ℕ) (long : answer_siz
             let x = read-nothing answer long (tried_by o.answer) in
             (record { status = refl; image = refl; reads = ap delivered x.0; counts = x.1 }, refl, refl)
         accepted o (some a) t =
-            let x = read-delivery answer long (deliveredFrame o a) t.kind.0 (omega (arith, t.number)) (omega (arith, t.most)) in
+            let x = read-delivery answer long (delivered_frame o a) t.kind.0 (omega (arith, t.number)) (omega (arith, t.most)) in
             (record { status = refl; image = refl; reads = ap delivered x.0; counts = x.1 }, refl, refl)
 
     pub deliver-shown : DeliverShown (deliver_call r queue out body) (exported_deliver (image r) queue out body answer)

@@ -17,7 +17,7 @@ use Rattle.matrix.proofs.Bounds.{count_121}
 use Rattle.matrix.proofs.Cleared.{clear-limit, inside-clear, inside-entry}
 use Rattle.matrix.specs.Array.{entry, flat, vector}
 use Rattle.matrix.specs.Matrix.{Matrix, clear, count}
-use Rattle.matrix.specs.Message.{Message, number, user_message}
+use Rattle.matrix.specs.Message.{Message, user_message}
 use Rattle.node.specs.Answers.{AfterSend, after_send, send_number}
 use Rattle.node.specs.Calls.{accept_send, refusal, refuse_send, send_call}
 use Rattle.node.specs.CallRefusals.{send_refusal}
@@ -27,7 +27,6 @@ use Rattle.protocol.specs.Answer.{Outcome, accepted, refuse}
 use Rattle.protocol.specs.Node.{Node, at_limit}
 use Rattle.protocol.specs.Send.{bad_destination, long_body, send, sending}
 use Rattle.protocol.specs.Trim.{Trimmed, trim_for}
-use Rattle.protocol.specs.World.{start}
 use Rattle.rights.specs.Ours.{ours}
 use Rattle.rights.specs.Rights.{lacks_right}
 use Rattle.rules.proofs.Facts.{Unbroken, limit-row, unbroken}

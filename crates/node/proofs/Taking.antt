@@ -155,12 +155,12 @@ module _ (s : List ℕ) (h : Header) (me n cap : ℕ) (m : List ℕ) where
       let kind : kind_of h.kind ≡ (decode s).kind = rw e in
       let same : learn (kind_of h.kind) (node_with me n cap m [] []) (decode s).entries ≡ t = rw kind in
       let text : take h.b (drop (8 + 6 * h.e) s) ≡ (decode s).body = rw e in
-      let kindB : h.kind ≡ kind_byte (decode s).kind = sym y.kind ∙ ap kind_byte kind in
+      let kind_b : h.kind ≡ kind_byte (decode s).kind = sym y.kind ∙ ap kind_byte kind in
       let from : h.from ≡ (decode s).from = rw e in
       let size : h.b ≡ length (decode s).body = sym y.size ∙ ap length text in
       let bytes : at ≡ length (frames_of t.extras) = w.2 ∙ ap (λ (u : Trimmed). length (frames_of u.extras)) same in
       let number : extras ≡ length t.extras = w.3 ∙ ap (λ (u : Trimmed). length u.extras) same in (
-        λ z. record { kind = kindB z; from = from z; number = q z; tried = tried; body = size z; bytes = bytes z; extras = number z },
+        λ z. record { kind = kind_b z; from = from z; number = q z; tried = tried; body = size z; bytes = bytes z; extras = number z },
         w.0 ∙ ap (λ (u : Trimmed). flat u.matrix) same,
         w.1 ∙ ap (λ (u : Trimmed). put out 0 (frames_of u.extras)) same,
         b ∙ ap (put body 0) (body-part s h ∙ text),

@@ -23,7 +23,6 @@ use Rattle.holdback.specs.Slots.{held_messages}
 use Rattle.protocol.proofs.Extras.{delivery-most, one_user, send-one}
 use Rattle.protocol.specs.Answer.{delivery}
 use Rattle.protocol.specs.Deliver.{Search, conclude, learn}
-use Rattle.protocol.specs.Node.{Node}
 use Rattle.protocol.specs.Offer.{deliverable}
 use Rattle.protocol.specs.Send.{sending}
 use Rattle.protocol.specs.Trim.{trim_for}

@@ -195,8 +195,8 @@ module _ (w : State) (v : Invariant w) (M' : ℕ → Matrix) (f : Issue) (s : Is
             omega (arith, t.last (ap (λ (z : Issue). z.message.kind) (sym h.1) ∙ u))
 
     -- a step sends one user message at most
-    oneEach' : (p q : ℕ) (g h : Issue) → At w' p g → At w' q h → IsUser g → IsUser h → g.step ≡ h.step → p ≡ q
-    oneEach' p q g h a b c d e = go (at_snoc w.log f p g a) (at_snoc w.log f q h b)
+    one_each' : (p q : ℕ) (g h : Issue) → At w' p g → At w' q h → IsUser g → IsUser h → g.step ≡ h.step → p ≡ q
+    one_each' p q g h a b c d e = go (at_snoc w.log f p g a) (at_snoc w.log f q h b)
       where
         go : Snoc w.log f p g → Snoc w.log f q h → p ≡ q
         go (inl x) (inl y) = v.one_each p q g h x y c d e
@@ -290,7 +290,7 @@ module _ (w : State) (v : Invariant w) (M' : ℕ → Matrix) (f : Issue) (s : Is
     pub issue-invariant : Invariant (after_issue w M' f)
     issue-invariant = record {
       early = early';
-      one_each = oneEach';
+      one_each = one_each';
       distinct = distinct';
       numbered = numbered';
       kept = kept';

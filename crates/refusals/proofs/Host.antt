@@ -45,20 +45,20 @@ status_of status false false broken t₃ rest h p q e = e ∙ rw (h refl, or-fal
 -- ---- set-up
 module _ (i : List ℕ) (me n cap : ℕ) where
   -- the call by its two checks
-  abbrev setUpBy : Bool → Bool → SetUpLeft
-  setUpBy far other = cond far (set_up_left 1 i) (cond other (set_up_left 20 i) (set_up_left 0 (image (fresh_record me n cap))))
+  abbrev set_up_by : Bool → Bool → SetUpLeft
+  set_up_by far other = cond far (set_up_left 1 i) (cond other (set_up_left 20 i) (set_up_left 0 (image (fresh_record me n cap))))
 
-  set_up-by : exported_set_up i me n cap ≡ setUpBy (not (in_range me n cap)) (not (eqb (length i) image_size))
+  set_up-by : exported_set_up i me n cap ≡ set_up_by (not (in_range me n cap)) (not (eqb (length i) image_size))
   unfolding exported_set_up set_up
   set_up-by = go (in_range me n cap)
     where
       go : (b : Bool) → (let c : SetUp = cond b (record { answer = set_up_answer.Ready; node = fresh_record me n cap })
           (record { answer = set_up_answer.Refused 1; node = fresh_record 0 0 0 }) in
-          set_up_told i c.node c.answer) ≡ setUpBy (not b) (not (eqb (length i) image_size))
+          set_up_told i c.node c.answer) ≡ set_up_by (not b) (not (eqb (length i) image_size))
       go true = turned (eqb (length i) image_size) (set_up_left 0 (image (fresh_record me n cap))) (set_up_left 20 i)
       go false = refl
 
-  set_up-status : (far other : Bool) → (setUpBy far other).status ≡ cond far 1 (cond other 20 0)
+  set_up-status : (far other : Bool) → (set_up_by far other).status ≡ cond far 1 (cond other 20 0)
   set_up-status true other = refl
   set_up-status false true = refl
   set_up-status false false = refl

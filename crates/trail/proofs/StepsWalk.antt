@@ -1,5 +1,5 @@
 -- The steps of a walk are the walk, and what the cursor carries is what the plain definition counts. Assumes nothing.
-use Prim.Native.Nat.{◌-◌, ◌≤◌, suc, zero, ℕ}
+use Prim.Native.Nat.{◌≤◌, suc, zero, ℕ}
 use mathlib.Core.Bool.{Bool, false, true}
 use mathlib.Core.List.{List, [], ◌∷◌}
 use mathlib.Core.Path.{◌∙◌, ◌≡◌, ap, refl}
