@@ -2,7 +2,7 @@
  * The detour, played by a host program: cover, dome, camera and archive, and a link that loses, repeats, delays,
  * reorders and damages. From the top of the repository:
  *
- *     rt staticlib host && cc -std=c99 -Iinclude examples/host.c target/staticlib/libhost.a -o host && ./host
+ *     rust/archives host && cc -std=c99 -Iinclude examples/host.c target/staticlib/libhost.a -o host && ./host
  *
  * A real host has one of the nodes, and stores its image and queue, with the frames that it keeps, before it transmits
  * what a call issued. Here all four are in one program, and what would be transmitted is brought by `bring`.

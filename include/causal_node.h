@@ -1,5 +1,5 @@
 /*
- * The causal node and the trail, for a host program in C or C++. Link libhost.a, which `rt staticlib host` writes.
+ * The causal node and the trail, for a host program in C or C++. Link libhost.a, which `rust/archives host` writes.
  *
  * Each function returns 0 (CAUSAL_TAKEN) or the number of a refusal; a refusal leaves every byte and number that was
  * lent. The functions require nothing of what the lent bytes are. They keep no pointer and share nothing: calls on

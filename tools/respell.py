@@ -25,6 +25,10 @@ OLD_WORDS = {"getD": "get_or"}
 BY_HAND = {name: name.replace("-", "_") + "_lem" for name in """any-bytes deliver-checks frames-of fresh-record kind-byte list-refusals no-extras of-kind of-pieces
     offer-checks one-in-eight send-checks set-ups story-events three-in-eight with-one in-range of-list header_row same_bytes with_two goes_on""".split()}
 BY_HAND.update({"last_frame": "is_last_frame", "out_of_range": "when_out_of_range"})
+# names that are declared within a module or bound in a proof
+WITHIN = """heldHere held_here shortLent short_lent sendRoom send_room queueHere queue_here refusalOf refusal_of heldThere held_there setUpBy set_up_by
+    behindSend behind_send behindDeliver behind_deliver behindOffer behind_offer oneEach' one_each' deliveredFrame delivered_frame sentBy sent_by
+    laidOut laid_out kindB kind_b""".split()
 
 
 def files(root):
@@ -97,6 +101,7 @@ def main():
     known = std | {snake(n) for n in names if "-" not in n}
     table = {n: new_name(n, known) for n in names}
     table = {a: b for a, b in table.items() if a != b}
+    table.update(zip(WITHIN[::2], WITHIN[1::2]))
     if "--list" in sys.argv:
         for a, b in sorted(table.items()):
             print(a, b)

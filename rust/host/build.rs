@@ -10,7 +10,7 @@ fn main() {
     println!("cargo:rerun-if-changed={}", archive.display());
     if !archive.exists() {
         panic!(
-            "\n\n{} is missing.\nRun `rt staticlib {name}` at the top of the repository, and build again.\n",
+            "\n\n{} is missing.\nRun `rust/archives {name}` at the top of the repository, and build again.\n",
             archive.display()
         );
     }

@@ -21,11 +21,11 @@ pub fn from_top(path: &str) -> PathBuf {
 /// builds it.
 pub fn compiled(name: &str) -> PathBuf {
     let capitals = name.to_uppercase();
-    let built = || from_top("target/bin").join(name);
+    let built = || from_top("crates").join(name).join("out").join(name);
     let program = std::env::var_os(&capitals).map_or_else(built, PathBuf::from);
     assert!(
         program.is_file(),
-        "there is no compiled {name} at {}: run `rt check {name}` at the top of the repository, or name it in {capitals}",
+        "there is no compiled {name} at {}: run `rt run` in crates/{name}, or name it in {capitals}",
         program.display()
     );
     program

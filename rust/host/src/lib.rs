@@ -31,7 +31,7 @@
 //!
 //! [`trail`] is the trail, the file in which an archive keeps its delivered frames. [`lent`] has the calls as they are
 //! exported, over lent slices of any length; a host needs it only where it cannot use [`Node`]. The crate needs nothing
-//! but the archive `libhost.a`, which `rt staticlib host` writes.
+//! but the archive `libhost.a`, which `rust/archives host` writes.
 #![deny(unsafe_code)]
 #![warn(missing_docs)]
 
