@@ -87,6 +87,8 @@ def respelled(text, table, source, made):
         skip = strings(line) if source else []
 
         def word(m):
+            if source and re.fullmatch("[a-z0-9_]+", m[0]):
+                return m[0]  # a plain name in src/ is a function's, a field's or a parameter's
             stays = any(a <= m.start() < b for a, b in skip) or made and "-" in m[0] and line[: m.start()].endswith(".")
             return m[0] if stays else table.get(m[0], m[0])
 

@@ -9,6 +9,7 @@ use super::entries::Entry;
 use super::header::Header;
 
 // 8: the length is not 12 to 802, or a trailer field is wrong.
+#[tactic(auto, using(std::proofs::lemmas::Grind::common_steps), unfolding(crate::specs::Refusals::wrong_trailer))]
 fn wrong_trailer(s: &[u8]) -> bool
     ensures { result ≡ wrong_trailer s.now }
 {
@@ -22,6 +23,7 @@ fn wrong_trailer(s: &[u8]) -> bool
 }
 
 // 9: the kind is not 1 or 2, or byte 7 is not zero.
+#[tactic(auto, using(std::proofs::lemmas::Grind::common_steps), unfolding(crate::specs::Refusals::wrong_kind))]
 fn wrong_kind(h: Header) -> bool
     ensures { result ≡ wrong_kind h }
 {
@@ -35,6 +37,7 @@ fn wrong_kind(h: Header) -> bool
 }
 
 // The cap is below n or above n * n.
+#[tactic(auto, using(std::proofs::lemmas::Grind::common_steps), unfolding(crate::specs::Refusals::wrong_cap))]
 fn wrong_cap(h: Header, n: u8) -> bool
     ensures { result ≡ wrong_cap n h }
 {
@@ -45,6 +48,7 @@ fn wrong_cap(h: Header, n: u8) -> bool
 }
 
 // 10: n is another, the cap breaks its rule, from or to is not below n, or they are equal.
+#[tactic(auto, using(std::proofs::lemmas::Grind::common_steps), unfolding(crate::specs::Refusals::wrong_address))]
 fn wrong_address(h: Header, n: u8) -> bool
     ensures { result ≡ wrong_address n h }
 {
@@ -64,6 +68,7 @@ fn wrong_address(h: Header, n: u8) -> bool
 }
 
 // The body's length is above 64, or not 0 in an extra.
+#[tactic(auto, using(std::proofs::lemmas::Grind::common_steps), unfolding(crate::specs::Refusals::wrong_body))]
 fn wrong_body(h: Header) -> bool
     ensures { result ≡ wrong_body h }
 {
@@ -77,6 +82,7 @@ fn wrong_body(h: Header) -> bool
 }
 
 // Whether an entry keeps the rules that look at it alone.
+#[tactic(auto, using(std::proofs::lemmas::Grind::common_steps), unfolding(crate::specs::Refusals::entry_ok))]
 fn entry_ok(h: Header, n: u8, a: Entry) -> bool
     ensures { result ≡ entry_ok n h a }
 {
@@ -128,6 +134,7 @@ fn wrong_entries(s: &[u8], h: Header, n: u8) -> bool
 }
 
 // 11: 8 + 6 * e + b is not the count pointed back, b breaks its rule, e exceeds the frame's cap, or an entry breaks a rule.
+#[tactic(auto, using(std::proofs::lemmas::Grind::common_steps), unfolding(crate::specs::Refusals::wrong_content))]
 fn wrong_content(s: &[u8], h: Header, n: u8) -> bool
     requires { (h ≡ header s.now) × (4 ≤ length s.now) × (count_back s.now ≡ length s.now - 4) }
     ensures { result ≡ wrong_content n s.now }

@@ -14,6 +14,7 @@ use node::{deliver, offer, send};
 pub use trail_calls::{trail_step, trail_walk, trail_write};
 
 // The number of a refusal by the node's checks: 20 stands where 2 stood.
+#[tactic(auto, using(std::proofs::lemmas::Grind::common_steps))]
 fn told(why: u8) -> u8
     ensures { result ≡ cond (eqb why 2) 20 why }
 {

@@ -74,6 +74,7 @@ pub fn parse(input: &[u8]) -> Request
 }
 
 // Whether one of the three numbers is out of its range.
+#[tactic(auto, using(std::proofs::lemmas::Grind::common_steps), unfolding(crate::specs::Refusal18::out_of_range, crate::specs::Refusal18::wrong_n, crate::specs::Refusal18::wrong_seed, crate::specs::Refusal18::wrong_draws))]
 fn out_of_range(n: usize, seed: u64, draws: usize) -> bool
     ensures { result ≡ out_of_range n seed draws }
 {

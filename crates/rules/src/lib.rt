@@ -23,6 +23,7 @@ fn either(a: bool, b: bool) -> bool
 }
 
 /// Whether n is 2 to 12, me is below n and cap is n to n * n.
+#[tactic(auto, using(std::proofs::lemmas::Grind::common_steps), unfolding(crate::specs::Rules::in_range))]
 pub fn in_range(me: usize, n: usize, cap: usize) -> bool
     ensures { result ≡ in_range me n cap }
 {

@@ -26,6 +26,7 @@ fn larger(a: usize, b: usize) -> usize
 }
 
 /// Whether w is not 1 to 64.
+#[tactic(auto, using(std::proofs::lemmas::Grind::common_steps), unfolding(crate::specs::Cursor::wrong_window))]
 pub fn wrong_window(w: usize) -> bool
     ensures { result ≡ wrong_window w }
 {

@@ -27,6 +27,7 @@ pub fn unsound(s: &[u8]) -> bool
 }
 
 /// 1 for the kind byte of an extra frame, 0 for a user frame's.
+#[tactic(auto, using(std::proofs::lemmas::Grind::common_steps), unfolding(crate::specs::Sound::extra_bit))]
 pub fn extra_bit(kind: u8) -> u8
     ensures { result ≡ kind_bit kind }
 {

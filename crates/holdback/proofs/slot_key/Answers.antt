@@ -29,9 +29,10 @@ returns-then-len-gt-MAX_FRAME c =
 
 pub slice_bounds-refusal-end : goal.slice_bounds-refusal-end
 slice_bounds-refusal-end c =
+    let fits_1 = c.if-len-gt-MAX_FRAME.false in
     let slot : List ℕ = c.args.slot.now in
     let fits : c.own_length-len.result ≡ length (take c.own_length-len.result slot) =
-    let h : c.own_length-len.result ≤ length slot = omega (arith, c.requires.0, c.if-len-gt-MAX_FRAME.false) in
+    let h : c.own_length-len.result ≤ length slot = omega (arith, c.requires.0, fits_1) in
     sym (length-take-le c.own_length-len.result slot h)
     in
     fits
@@ -48,9 +49,10 @@ returns-then-refusal-ne0 c =
 
 pub slice_bounds-refusal-end-2 : goal.slice_bounds-refusal-end-2
 slice_bounds-refusal-end-2 c =
+    let fits_2 = c.if-len-gt-MAX_FRAME.false in
     let slot : List ℕ = c.args.slot.now in
     let fits : c.own_length-len.result ≡ length (take c.own_length-len.result slot) =
-    let h : c.own_length-len.result ≤ length slot = omega (arith, c.requires.0, c.if-len-gt-MAX_FRAME.false) in
+    let h : c.own_length-len.result ≤ length slot = omega (arith, c.requires.0, fits_2) in
     sym (length-take-le c.own_length-len.result slot h)
     in
     fits
@@ -85,10 +87,11 @@ returns-then-refusal-ne0-2 c =
 
 pub returns-then-not-all_zero : goal.returns-then-not-all_zero
 returns-then-not-all_zero c =
+    let fits_3 = c.if-len-gt-MAX_FRAME.false in
     let node : ℕ → Node = λ cap. node_with c.args.me c.args.n cap c.args.m.now c.args.deliv.now [] in
     let slot : List ℕ = c.args.slot.now in
     let own : c.own_length-len.result ≡ own_length (header slot) = c.own_length-len.ensures ∙ ap own_length c.read-h.ensures in
-    let short : own_length (header slot) ≤ max_frame = omega (arith, own, c.if-len-gt-MAX_FRAME.false) in
+    let short : own_length (header slot) ≤ max_frame = omega (arith, own, fits_3) in
     let told : c.refusal.result ≡ frame_refusal c.args.n
     (frame_in slot) =
     c.refusal.ensures ∙ ap (frame_refusal c.args.n) (slot-part slot c.own_length-len.result own) in
@@ -106,9 +109,10 @@ returns-then-not-all_zero c =
 
 pub slice_bounds-number-end : goal.slice_bounds-number-end
 slice_bounds-number-end c =
+    let fits_4 = c.if-len-gt-MAX_FRAME.false in
     let slot : List ℕ = c.args.slot.now in
     let fits : c.own_length-len.result ≡ length (take c.own_length-len.result slot) =
-    let h : c.own_length-len.result ≤ length slot = omega (arith, c.requires.0, c.if-len-gt-MAX_FRAME.false) in
+    let h : c.own_length-len.result ≤ length slot = omega (arith, c.requires.0, fits_4) in
     sym (length-take-le c.own_length-len.result slot h)
     in
     fits
@@ -127,11 +131,12 @@ number-requires c =
 
 pub returns : goal.returns
 returns c =
+    let fits_5 = c.if-len-gt-MAX_FRAME.false in
     let slot : List ℕ = c.args.slot.now in
     let own : c.own_length-len.result ≡ own_length (header slot) = c.own_length-len.ensures ∙ ap own_length c.read-h.ensures in
     let part : take c.own_length-len.result slot ≡ frame_in slot = slot-part slot c.own_length-len.result own in
     let node : ℕ → Node = λ cap. node_with c.args.me c.args.n cap c.args.m.now c.args.deliv.now [] in
-    let short : own_length (header slot) ≤ max_frame = omega (arith, own, c.if-len-gt-MAX_FRAME.false) in
+    let short : own_length (header slot) ≤ max_frame = omega (arith, own, fits_5) in
     let told : c.refusal.result ≡ frame_refusal c.args.n
     (frame_in slot) =
     c.refusal.ensures ∙ ap (frame_refusal c.args.n) (slot-part slot c.own_length-len.result own) in

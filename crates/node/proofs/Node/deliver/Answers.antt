@@ -37,13 +37,14 @@ returns-then-place-eq0 c =
 
 pub take-d-requires : goal.take-d-requires
 take-d-requires c =
+    let some_1 = c.if-place-eq0.false in
     let sized : (length c.args.self.m ≡ 144) × (length c.args.self.deliv ≡ 12) = search rules in
     let told : c.refusal-why.result
     ≡ (let a = c.args in deliver_refusal a.self a.queue.now (short_outputs (length a.out.now) (length a.body.now))) =
     c.refusal-why.ensures
     ∙ ap (deliver_refusal c.args.self c.args.queue.now) c.short_outputs-short.ensures in
     let finds : (let a = c.args in Finds a.self a.queue.now (length a.out.now) (length a.body.now) c.search-place.result) =
-    record { passes = sym told ∙ c.if-why-ne0.false; found = c.search-place.ensures _ _ _ _; some = c.if-place-eq0.false } in
+    record { passes = sym told ∙ c.if-why-ne0.false; found = c.search-place.ensures _ _ _ _; some = some_1 } in
     record {
       deliv = c.args.self.deliv;
       cells = sized.0;
@@ -65,22 +66,24 @@ count_up-requires c =
 
 pub overflow_sub-self : goal.overflow_sub-self
 overflow_sub-self c =
+    let some_2 = c.if-place-eq0.false in
     let told : c.refusal-why.result
     ≡ (let a = c.args in deliver_refusal a.self a.queue.now (short_outputs (length a.out.now) (length a.body.now))) =
     c.refusal-why.ensures
     ∙ ap (deliver_refusal c.args.self c.args.queue.now) c.short_outputs-short.ensures in
     let finds : (let a = c.args in Finds a.self a.queue.now (length a.out.now) (length a.body.now) c.search-place.result) =
-    record { passes = sym told ∙ c.if-why-ne0.false; found = c.search-place.ensures _ _ _ _; some = c.if-place-eq0.false } in
+    record { passes = sym told ∙ c.if-why-ne0.false; found = c.search-place.ensures _ _ _ _; some = some_2 } in
     let f = finds in
     omega (arith, place-held c.args.self c.args.queue.now _ f.found f.some)
 
 pub returns : goal.returns
 returns c =
+    let some_3 = c.if-place-eq0.false in
     let told : c.refusal-why.result
     ≡ (let a = c.args in deliver_refusal a.self a.queue.now (short_outputs (length a.out.now) (length a.body.now))) =
     c.refusal-why.ensures
     ∙ ap (deliver_refusal c.args.self c.args.queue.now) c.short_outputs-short.ensures in
     let finds : (let a = c.args in Finds a.self a.queue.now (length a.out.now) (length a.body.now) c.search-place.result) =
-    record { passes = sym told ∙ c.if-why-ne0.false; found = c.search-place.ensures _ _ _ _; some = c.if-place-eq0.false } in
+    record { passes = sym told ∙ c.if-why-ne0.false; found = c.search-place.ensures _ _ _ _; some = some_3 } in
     rw c.count_up.ensures (c.take-d.ensures.2 _
     finds)
