@@ -6,12 +6,23 @@ use std::io::{Read, Write};
 use std::{env, io};
 use text::Ran;
 
+// The system's words for an error, without its number.
+fn reason(message: &str) -> &str {
+    match message.split_once(" (os error ") {
+        Some((words, _)) => words,
+        None => message,
+    }
+}
+
 // One file. One that cannot be opened is named on standard error, with the reason.
 fn one(rt: &HostRuntime, path: &str) -> io::Result<()> {
     println!(rt; "{path}")?;
     let file = match File::open(rt, path) {
         Ok(file) => file,
-        Err(why) => return eprintln!(rt; "{path}: {why}"),
+        Err(why) => {
+            let message = format!(in rt.alloc(); "{why}")?;
+            return eprintln!(rt; "{path}: {}", reason(message.as_str()));
+        }
     };
     let mut input = Vec::new(rt.alloc());
     file.take(simulation::MAX_INPUT as u64 + 1)
