@@ -42,6 +42,11 @@ pub fn complaint(program: &Path, input: &[u8]) -> io::Result<Vec<u8>> {
     Ok(run(program, input, full.into())?.stderr)
 }
 
+/// What a program does where its input cannot be read: standard input is a directory.
+pub fn unreadable(program: &Path) -> io::Result<Output> {
+    Command::new(program).stdin(File::open("/")?).output()
+}
+
 /// Runs a program on an input, with this standard output.
 fn run(program: &Path, input: &[u8], stdout: Stdio) -> io::Result<Output> {
     let mut child = Command::new(program).stdin(Stdio::piped()).stdout(stdout).stderr(Stdio::piped()).spawn()?;

@@ -3,7 +3,7 @@
 //! lines.
 
 use differential::printed::linked_differs;
-use differential::program::{compiled, complaint, output, Programs};
+use differential::program::{compiled, complaint, output, unreadable, Programs};
 use differential::run::{compare_inputs, fates_of_inputs};
 use differential::stored;
 use generate::Generator;
@@ -70,4 +70,10 @@ fn stored_lines() {
 fn an_output_that_cannot_be_written_is_told() {
     let complaint = complaint(&compiled("load"), b"2 1 40\n").expect("the load runs");
     assert_eq!(String::from_utf8_lossy(&complaint), "load: the output cannot be written\n");
+}
+
+#[test]
+fn an_input_that_cannot_be_read_is_told() {
+    let ran = unreadable(&compiled("load")).expect("the load runs");
+    assert_eq!((ran.status.code(), ran.stdout.len(), ran.stderr.is_empty()), (Some(1), 0, false));
 }

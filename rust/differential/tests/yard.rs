@@ -1,7 +1,7 @@
 //! The compiled yard beside the reference's: generated inputs, valid and damaged, which meet every case of a delay, and
 //! the stored ones.
 
-use differential::program::{compiled, complaint, from_top, Programs};
+use differential::program::{compiled, complaint, from_top, unreadable, Programs};
 use differential::run::{compare_inputs, fates_of_inputs};
 use differential::stored;
 use generate::first_line::FirstLine;
@@ -76,6 +76,12 @@ fn an_output_that_cannot_be_written_is_told() {
     let input = read("examples/detour.yard");
     let complaint = complaint(&compiled("yard"), &input).expect("the yard runs");
     assert_eq!(String::from_utf8_lossy(&complaint), "yard: the output cannot be written\n");
+}
+
+#[test]
+fn an_input_that_cannot_be_read_is_told() {
+    let ran = unreadable(&compiled("yard")).expect("the yard runs");
+    assert_eq!((ran.status.code(), ran.stdout.len(), ran.stderr.is_empty()), (Some(1), 0, false));
 }
 
 /// The bytes of a file of the repository.
