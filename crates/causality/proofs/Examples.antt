@@ -38,9 +38,9 @@ use Rattle.rights.specs.Topics.{group}
 use Rattle.wire.proofs.Bytes.{small_bytes}
 use Rattle.wire.specs.Bytes.{le16, le32, u16_at, u32_at}
 use Rattle.wire.specs.Trailer.{checksum, count_back, has_trailer, sealed, sum_back, trailer}
-use Rattle.node.specs.declared.SendAnswer.TheVariants as send
-use Rattle.node.specs.declared.OfferAnswer.TheVariants as offer
-use Rattle.node.specs.declared.DeliverAnswer.TheVariants as deliver
+use Rattle.node.specs.SendAnswer as send
+use Rattle.node.specs.OfferAnswer as offer
+use Rattle.node.specs.DeliverAnswer as deliver
 use Rattle.protocol.specs.Send as protocol_send
 use Rattle.protocol.specs.Offer as protocol_offer
 use Rattle.protocol.specs.Deliver as protocol_deliver

@@ -33,7 +33,7 @@ use Rattle.protocol.specs.World as messages
 use Rattle.protocol.specs.Answer as protocol
 use Rattle.protocol.specs.Node.{Node as MessageNode}
 use Rattle.node.specs.declared.Node.{Node as Record}
-use Rattle.node.specs.declared.OfferAnswer.TheVariants as answer
+use Rattle.node.specs.OfferAnswer as answer
 
 -- an offer of m at d is refused, or it is not
 data Case (d : MessageNode) (m : Message) : Type 0 where

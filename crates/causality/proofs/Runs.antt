@@ -21,7 +21,7 @@ use Rattle.node.specs.Sizes.{out_size}
 use Rattle.rules.proofs.Kept.{range-T}
 use Rattle.rules.specs.Rules.{in_range}
 use Rattle.node.specs.SetUp.{fresh_record, set_up}
-use Rattle.node.specs.declared.SetUp.{SetUp}
+use Rattle.node.specs.Answers.{SetUp}
 use Rattle.protocol.proofs.Good.{Good}
 use Rattle.protocol.proofs.Lists.{at_map, at_none, none-map}
 use Rattle.protocol.proofs.Runs.{run_length, step-good}
@@ -31,7 +31,7 @@ use Rattle.wire.proofs.Tests.{cond_elim, cond_yes, or-not}
 use Rattle.wire.specs.Bytes.{AllBytes}
 use Rattle.protocol.specs.World as messages
 use Rattle.protocol.specs.Deliver.{deliver}
-use Rattle.node.specs.declared.SetUpAnswer.TheVariants.{Refused, Ready}
+use Rattle.node.specs.SetUpAnswer.{Refused, Ready}
 
 -- two worlds that depend on one test
 both : (n : ℕ) (t : Bool) (x y : messages.World) (u v : World) → (T t → Matches n x u) → Matches n y v → Matches n (cond t x y) (cond t u v)

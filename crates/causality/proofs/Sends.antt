@@ -39,7 +39,7 @@ use Rattle.wire.specs.Limits.{max_body}
 use Rattle.protocol.specs.World as messages
 use Rattle.protocol.specs.Answer as protocol
 use Rattle.node.specs.declared.Node.{Node as Record}
-use Rattle.node.specs.declared.SendAnswer.TheVariants as answer
+use Rattle.node.specs.SendAnswer as answer
 
 -- a send that the node refuses whatever the protocol says of it: it is lent too little, or its class lacks the right to its body
 abbrev pub barred : (class : ℕ) (body out : List ℕ) → Bool

@@ -33,8 +33,8 @@ use Rattle.protocol.specs.World as messages
 use Rattle.protocol.specs.Answer as protocol
 use Rattle.protocol.specs.Node.{Node as MessageNode}
 use Rattle.node.specs.declared.Node.{Node as Record}
-use Rattle.node.specs.declared.SendAnswer.TheVariants as send_answer
-use Rattle.node.specs.declared.DeliverAnswer.TheVariants as deliver_answer
+use Rattle.node.specs.SendAnswer as send_answer
+use Rattle.node.specs.DeliverAnswer as deliver_answer
 use Rattle.protocol.specs.Deliver.{deliver}
 
 -- whether a deliver is lent too little

@@ -4,8 +4,8 @@ use Rattle.std.proofs.Math.Option.{Option, none, some}
 use Rattle.std.proofs.Math.ListN.{get_elem?}
 use Rattle.matrix.specs.Message.{EachInRange}
 use Rattle.frame.specs.Header.{header}
-use Rattle.node.specs.declared.SendAnswer.TheVariants as send
-use Rattle.node.specs.declared.DeliverAnswer.TheVariants as deliver
+use Rattle.node.specs.SendAnswer as send
+use Rattle.node.specs.DeliverAnswer as deliver
 use Rattle.causality.specs.Demand3.{Step, BodiesOfBytes, Answer, sent, offered, delivered, Issue, Event, World, Label, delivery, start, run, sum_over}
 
 -- the number of extra frames that an answer reports

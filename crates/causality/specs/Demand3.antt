@@ -13,11 +13,11 @@ use Rattle.frame.specs.Header.{header, own_length}
 use Rattle.frame.specs.Frame.{decode}
 use Rattle.holdback.specs.Slots.{queue_size, zeros, held_frames}
 use Rattle.node.specs.declared.Node.{Node as Record}
-use Rattle.node.specs.declared.SendAnswer.{SendAnswer}
-use Rattle.node.specs.declared.OfferAnswer.{OfferAnswer}
-use Rattle.node.specs.declared.DeliverAnswer.{DeliverAnswer}
-use Rattle.node.specs.declared.OfferAnswer.TheVariants as offer
-use Rattle.node.specs.declared.DeliverAnswer.TheVariants as deliver
+use Rattle.node.specs.SendAnswer.{SendAnswer}
+use Rattle.node.specs.OfferAnswer.{OfferAnswer}
+use Rattle.node.specs.DeliverAnswer.{DeliverAnswer}
+use Rattle.node.specs.OfferAnswer as offer
+use Rattle.node.specs.DeliverAnswer as deliver
 use Rattle.node.specs.SetUp.{set_up}
 use Rattle.node.specs.Answers.{send_number, offer_number, deliver_number, send_bytes, deliver_bytes, AfterSend, AfterOffer, AfterDeliver}
 use Rattle.node.specs.Sizes.{out_size}

@@ -1,167 +1,106 @@
 //! The lines of a simulation's input: the first line with its sizes, and the commands behind it.
 #![tactic(auto)]
 
-ghost use Rattle.std.specs.Prelude.{◌≡◌, ◌≤◌, length, take};
+ghost use Rattle.std.specs.Prelude.{◌≡◌};
 ghost use Rattle.commands.specs.Commands.{letter, with_one, with_two, command};
-ghost use Rattle.commands.specs.FirstLine.{other, numbers, counted, sizes, first_line};
-ghost use Rattle.commands.specs.Behind.{behind};
+ghost use Rattle.commands.specs.FirstLine.{counted, first_line};
 
 /// Caps that a first line gives at most: one for each node that a simulation may have.
 pub const MAX_CAPS: usize = 4;
 
 /// What a line asks for; the numbers are as they stand in the line, and may be out of range.
-#[derive(Clone, Copy)]
+#[derive(Clone, Copy, Debug, PartialEq, Eq)]
 pub enum Command {
     Send { from: usize, to: usize },
     Offer(usize),
     Deliver(usize),
-    Other,
 }
 
-/// Whether a first line gives sizes, and then its n, which may be out of range.
-#[derive(Clone, Copy)]
-pub enum Form {
-    Sizes(usize),
-    Other,
-}
-
-/// What the first line says; the caps are as they stand in the line, one for each of the n nodes, with zeros behind them, and all zero in another form.
-#[derive(Clone, Copy)]
-pub struct FirstLine {
-    pub form: Form,
+/// What a first line says: n and a cap for each of the n nodes, as they stand in the line, with zeros behind them. All may be out of range.
+#[derive(Clone, Copy, Debug, PartialEq, Eq)]
+pub struct Sizes {
+    pub n: usize,
     pub caps: [usize; MAX_CAPS],
 }
 
-// The byte of a first piece of one byte that ends at `end`, and 0 where it has another length.
-fn letter(line: &[u8], end: usize) -> u8
-    requires { end ≤ length line.now }
-    ensures { result ≡ letter (take end line.now) }
+// The letter that a first piece of one byte is.
+#[tactic(auto, unfolding(crate::specs::Commands::letter))]
+fn letter(piece: &[u8]) -> Option<u8>
+    ensures { result ≡ letter piece.now }
 {
-    if end != 1 {
-        return 0;
+    match piece {
+        [b] => Some(*b),
+        _ => None,
     }
-    line[0]
 }
 
 // The command of a letter and one field.
-fn with_one(l: u8, i: text::Number) -> Command
-    ensures { result ≡ with_one l i }
+#[tactic(auto, unfolding(crate::specs::Commands::with_one))]
+fn with_one(letter: Option<u8>, i: Option<u64>) -> Option<Command>
+    ensures { result ≡ with_one letter i }
 {
-    match i {
-        text::Number::Is(v) => {
-            if l == b'A' {
-                return Command::Offer(v as usize);
-            }
-            if l == b'D' {
-                return Command::Deliver(v as usize);
-            }
-            Command::Other
-        }
-        text::Number::Not => Command::Other,
+    let i = i? as usize;
+    match letter? {
+        b'A' => Some(Command::Offer(i)),
+        b'D' => Some(Command::Deliver(i)),
+        _ => None,
     }
 }
 
 // The command of a letter and two fields.
-fn with_two(l: u8, i: text::Number, j: text::Number) -> Command
-    ensures { result ≡ with_two l i j }
+#[tactic(auto, unfolding(crate::specs::Commands::with_two))]
+fn with_two(letter: Option<u8>, i: Option<u64>, j: Option<u64>) -> Option<Command>
+    ensures { result ≡ with_two letter i j }
 {
-    match i {
-        text::Number::Is(v) => match j {
-            text::Number::Is(w) => {
-                if l == b'S' {
-                    return Command::Send {
-                        from: v as usize,
-                        to: w as usize,
-                    };
-                }
-                Command::Other
-            }
-            text::Number::Not => Command::Other,
-        },
-        text::Number::Not => Command::Other,
+    let from = i? as usize;
+    let to = j? as usize;
+    match letter? {
+        b'S' => Some(Command::Send { from, to }),
+        _ => None,
     }
 }
 
 /// The command of a line, which has its line feed no more.
-pub fn parse_command(line: &[u8]) -> Command
+#[tactic(auto, using(crate::proofs::Parts::parts))]
+pub fn parse_command(line: &[u8]) -> Option<Command>
     ensures { result ≡ command line.now }
 {
-    let a = text::find(line, 0, b' ');
-    if a == line.len() {
-        return Command::Other;
-    }
-    let l = letter(line, a);
-    let i = a + 1;
-    let b = text::find(line, i, b' ');
-    let first = text::field(line, i, b, 3);
-    if b == line.len() {
-        return with_one(l, first);
-    }
-    let j = b + 1;
-    let e = text::find(line, j, b' ');
-    if e < line.len() {
-        return Command::Other;
-    }
-    with_two(l, first, text::field(line, j, e, 3))
-}
-
-// A first line of another form.
-fn other() -> FirstLine
-    ensures { result ≡ other }
-{
-    FirstLine {
-        form: Form::Other,
-        caps: [0; MAX_CAPS],
+    let (l, fields) = text::split_once(line, b' ')?;
+    match text::split_once(fields, b' ') {
+        Some((i, j)) => with_two(letter(l), text::value(i, 3), text::value(j, 3)),
+        None => with_one(letter(l), text::value(fields, 3)),
     }
 }
 
-// The sizes of n and `count` caps, another form where these are not as many as the nodes.
-fn counted(n: text::Number, count: usize, caps: [usize; MAX_CAPS]) -> FirstLine
+// The sizes of n and `count` caps, none where these are not as many as the nodes.
+#[tactic(auto, unfolding(crate::specs::FirstLine::counted))]
+fn counted(n: Option<u64>, count: usize, caps: [usize; MAX_CAPS]) -> Option<Sizes>
     ensures { result ≡ counted n count caps }
 {
-    match n {
-        text::Number::Is(v) => {
-            let nodes = v as usize;
-            if count == nodes {
-                return FirstLine {
-                    form: Form::Sizes(nodes),
-                    caps,
-                };
-            }
-            other()
-        }
-        text::Number::Not => other(),
+    let n = n? as usize;
+    if count == n {
+        Some(Sizes { n, caps })
+    } else {
+        None
     }
 }
 
-// The sizes of n, whose field ends at `from`, and of the caps behind it; more than `MAX_CAPS` of them are another form, also where n is as large.
-fn with_caps(n: text::Number, line: &[u8], from: usize) -> FirstLine
-    requires { from ≤ length line.now }
-    ensures { result ≡ sizes n (numbers (behind from line.now)) }
+/// What the first line says, without its line feed. More than `MAX_CAPS` caps are refused, also where n is as large.
+#[tactic(auto)]
+pub fn parse_first_line(line: &[u8]) -> Option<Sizes>
+    ensures { result ≡ first_line line.now }
 {
-    let mut caps = [0usize; MAX_CAPS];
-    let mut count: usize = 0;
-    let mut end = from;
-    while end < line.len() {
+    let mut fields = line.split(|b| *b == b' ');
+    let n = text::value(fields.next()?, 3);
+    let mut caps = [0; MAX_CAPS];
+    let mut count = 0;
+    for field in fields {
+        // Kept: tried as `*caps.get_mut(count)? = ..`, and the proof didn't close: the contract of a slice's `get_mut` says nothing of what is written.
         if count == MAX_CAPS {
-            return other();
+            return None;
         }
-        let at = end + 1;
-        end = text::find(line, at, b' ');
-        let cap = text::field(line, at, end, 3);
-        match cap {
-            text::Number::Is(v) => caps[count] = v as usize,
-            text::Number::Not => return other(),
-        }
+        caps[count] = text::value(field, 3)? as usize;
         count += 1;
     }
     counted(n, count, caps)
-}
-
-/// What the first line says, without its line feed.
-pub fn parse_first_line(line: &[u8]) -> FirstLine
-    ensures { result ≡ first_line line.now }
-{
-    let end = text::find(line, 0, b' ');
-    with_caps(text::field(line, 0, end, 3), line, end)
 }

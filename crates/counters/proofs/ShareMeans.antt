@@ -19,13 +19,13 @@ by-half P t b x y z under at over = go (ltb t b) refl (eqb t b) refl
     go false d false f = over (omega (arith, ltb-false t b d, eqb-false t b f))
 
 -- the lower neighbour is nearest up to the half, and at the half where it is even
-pub down : (e u : ℕ) → 2 * (e * 100 % u) ≤ u → (2 * (e * 100 % u) ≡ u → e * 100 / u % 2 ≡ 0) → Rounded e u (e * 100 / u)
+down : (e u : ℕ) → 2 * (e * 100 % u) ≤ u → (2 * (e * 100 % u) ≡ u → e * 100 / u % 2 ≡ 0) → Rounded e u (e * 100 / u)
 down e u low even =
     let parts = mod-add-div (e * 100) u in
     record { near = omega (arith, parts); even = λ h. even (omega (arith, parts)) }
 
 -- the upper neighbour from the half on, and at the half where it is even
-pub up : (e u : ℕ) → 0 < u → u ≤ 2 * (e * 100 % u) → (2 * (e * 100 % u) ≡ u → (e * 100 / u + 1) % 2 ≡ 0) → Rounded e u (e * 100 / u + 1)
+up : (e u : ℕ) → 0 < u → u ≤ 2 * (e * 100 % u) → (2 * (e * 100 % u) ≡ u → (e * 100 / u + 1) % 2 ≡ 0) → Rounded e u (e * 100 / u + 1)
 up e u some high even =
     let parts = mod-add-div (e * 100) u in
     let inside = mod-lt (e * 100) some in
@@ -69,8 +69,15 @@ unfolding share
 share_is e u some = rw (ne_eqb u 0 (λ h. omega (arith, h)))
 
 -- so the share is whichever number is shown to be nearest
-pub share-by : (e u r : ℕ) → 0 < u → Rounded e u r → share e u ≡ up_to32 r
+share-by : (e u r : ℕ) → 0 < u → Rounded e u r → share e u ≡ up_to32 r
 share-by e u r some h = share_is e u some ∙ ap up_to32 (only e u (nearest (e * 100) u) r some (nearest_is e u some) h)
+
+-- past the half, or at it from an odd number, the share is the upper neighbour, otherwise the lower one
+pub goes-up : (e u : ℕ) → 0 < u → u < 2 * (e * 100 % u) + e * 100 / u % 2 → share e u ≡ up_to32 (e * 100 / u + 1)
+goes-up e u some h = share-by e u (e * 100 / u + 1) some (up e u some (omega (arith, h)) (λ z. omega (arith, h)))
+
+pub goes_down : (e u : ℕ) → 0 < u → 2 * (e * 100 % u) + e * 100 / u % 2 ≤ u → share e u ≡ up_to32 (e * 100 / u)
+goes_down e u some h = share-by e u (e * 100 / u) some (down e u (omega (arith, h)) (λ z. omega (arith, h)))
 
 -- a share below the largest number of 32 bits was not cut off
 itself : (e u : ℕ) → 0 < u → share e u < 4294967295 → Rounded e u (share e u)
@@ -82,7 +89,7 @@ no_extras_lem : (e u : ℕ) → 0 < u → u < 200 → share e u ≡ 0 → e ≡ 
 no_extras_lem e u some few z = omega (arith, (subst (Rounded e u) z (itself e u some (omega (arith, z)))).near)
 
 -- without user frames, and the request's two examples
-none : (e : ℕ) → share e 0 ≡ 0
+pub none : (e : ℕ) → share e 0 ≡ 0
 unfolding share
 none e = refl
 
@@ -110,3 +117,6 @@ share_means =
 pub share-printed : SharePrinted
 unfolding counted_delivery counted_nothing counted_offer counted_send no_counters share with_extras
 share-printed = record { start = refl; send = λ t x. refl; offer = λ t x e. cc; delivery = λ t x. refl; nothing = λ t x e. cc }
+
+-- for the function that computes a share
+pub ruleset roundings = (none, goes-up, goes_down)

@@ -1,11 +1,12 @@
 //! The counters of a run (document 01: the tally), which each step is lent and updates in place.
 #![tactic(auto)]
 
-ghost use Rattle.std.specs.Prelude.{◌≡◌, ◌+◌};
-ghost use Rattle.counters.specs.Counted.{up_to32, share, no_counters, with_extras, counted_send, counted_offer, counted_delivery, counted_nothing, totals};
+ghost use Rattle.std.specs.Prelude.{◌≡◌};
+ghost use Rattle.counters.specs.Counted.{share, no_counters, with_extras, counted_send, counted_offer, counted_delivery, counted_nothing, totals};
 
 /// User frames, extra frames, frames delivered (of either kind), delays (frames accepted without being deliverable), and extras per hundred user frames.
-#[derive(Clone, Copy)]
+/// A count stays at the largest number of 32 bits once it is there, so that none needs room.
+#[derive(Clone, Copy, Debug, PartialEq, Eq)]
 pub struct Counters {
     pub user: u32,
     pub extras: u32,
@@ -14,170 +15,140 @@ pub struct Counters {
     pub share: u32,
 }
 
-// The number, or the largest one of 32 bits where it is larger than that.
-fn up_to_32(x: u64) -> u32
-    ensures { result ≡ up_to32 x }
-{
-    if x < 4_294_967_296 {
-        x as u32
-    } else {
-        4_294_967_295
+impl Default for Counters {
+    ghost is_default = { λ t. t ≡ no_counters };
+
+    // The counters before the first step.
+    #[tactic(auto, unfolding(crate::specs::Counted::no_counters))]
+    fn default() -> Counters {
+        Counters {
+            user: 0,
+            extras: 0,
+            delivered: 0,
+            delays: 0,
+            share: 0,
+        }
     }
 }
 
-// The sum, which stays at the largest number of 32 bits, so that no count needs room.
-fn plus(a: u32, b: u32) -> u32
-    ensures { result ≡ up_to32 (a + b) }
-{
-    up_to_32(a as u64 + b as u64)
-}
-
 /// Extra frames per hundred user frames, rounded to the nearest whole number, an exact half to its even neighbour; 0 without user frames.
+#[tactic(auto, using(crate::proofs::ShareMeans::roundings), unfolding(crate::specs::Counted::up_to32))]
 pub fn share(extras: u32, user: u32) -> u32
     ensures { result ≡ share extras user }
 {
     if user == 0 {
         return 0;
     }
-    let hundredfold = extras as u64 * 100;
-    let below = hundredfold / (user as u64);
-    let rest = hundredfold % (user as u64);
+    let user = u64::from(user);
+    let hundredfold = u64::from(extras) * 100;
+    let below = hundredfold / user;
+    let rest = hundredfold % user;
     // past the half, or at it where the number below is odd
-    if 2 * rest + below % 2 > user as u64 {
-        up_to_32(below + 1)
+    let nearest = if 2 * rest + below % 2 > user {
+        below + 1
     } else {
-        up_to_32(below)
+        below
+    };
+    u32::try_from(nearest).unwrap_or(u32::MAX)
+}
+
+impl Counters {
+    /// The T numbers, in the order in which they are printed.
+    pub fn totals(self) -> [u32; 5]
+        ensures { result ≡ totals self }
+    {
+        [
+            self.user,
+            self.extras,
+            self.delivered,
+            self.delays,
+            self.share,
+        ]
     }
-}
 
-/// The counters before the first step.
-pub fn no_counters() -> Counters
-    ensures { result ≡ no_counters }
-{
-    Counters {
-        user: 0,
-        extras: 0,
-        delivered: 0,
-        delays: 0,
-        share: 0,
+    // With x extra frames more, and the share anew.
+    #[tactic(auto, unfolding(crate::specs::Counted::with_extras, crate::specs::Counted::up_to32))]
+    fn with_extras(self, x: u32) -> Counters
+        ensures { result ≡ with_extras self x }
+    {
+        let extras = self.extras.saturating_add(x);
+        Counters {
+            extras,
+            share: share(extras, self.user),
+            ..self
+        }
     }
-}
 
-/// The T numbers, in the order in which they are printed.
-pub fn totals(t: Counters) -> [u32; 5]
-    ensures { result ≡ totals t }
-{
-    [t.user, t.extras, t.delivered, t.delays, t.share]
-}
+    // Kept: `with_send` and `with_delivery` are twins, since document 01 wants one function for each step.
+    // With one user frame more, and its x extra frames.
+    #[tactic(auto, unfolding(crate::specs::Counted::counted_send, crate::specs::Counted::up_to32))]
+    fn with_send(self, x: u32) -> Counters
+        ensures { result ≡ counted_send self x }
+    {
+        let sent = Counters {
+            user: self.user.saturating_add(1),
+            ..self
+        };
+        sent.with_extras(x)
+    }
 
-// With x extra frames more, and the share anew.
-fn with_extras(t: Counters, x: u32) -> Counters
-    ensures { result ≡ with_extras t x }
-{
-    let user = t.user;
-    let extras = plus(t.extras, x);
-    let mut next = t;
-    next.extras = extras;
-    next.share = share(extras, user);
-    next
-}
+    // With x delays more: 1 for an accepted frame that was not deliverable, 0 for one that was.
+    #[tactic(auto, unfolding(crate::specs::Counted::counted_offer, crate::specs::Counted::up_to32))]
+    fn with_offer(self, x: u32) -> Counters
+        ensures { result ≡ counted_offer self x }
+    {
+        Counters {
+            delays: self.delays.saturating_add(x),
+            ..self
+        }
+    }
 
-// With one user frame more, and its x extra frames.
-fn with_send(t: Counters, x: u32) -> Counters
-    ensures { result ≡ counted_send t x }
-{
-    let mut sent = t;
-    sent.user = plus(t.user, 1);
-    with_extras(sent, x)
-}
+    // Kept: the twin of `with_send`; why, stands there.
+    // With one frame more delivered, and its x extra frames.
+    #[tactic(auto, unfolding(crate::specs::Counted::counted_delivery, crate::specs::Counted::up_to32))]
+    fn with_delivery(self, x: u32) -> Counters
+        ensures { result ≡ counted_delivery self x }
+    {
+        let delivered = Counters {
+            delivered: self.delivered.saturating_add(1),
+            ..self
+        };
+        delivered.with_extras(x)
+    }
 
-// With x delays more: 1 for an accepted frame that was not deliverable, 0 for one that was.
-fn with_offer(t: Counters, x: u32) -> Counters
-    ensures { result ≡ counted_offer t x }
-{
-    let mut next = t;
-    next.delays = plus(t.delays, x);
-    next
-}
+    // A deliver that answers none counts nothing: x, the held frames that were tried, is not used.
+    #[tactic(auto, unfolding(crate::specs::Counted::counted_nothing))]
+    fn with_nothing(self, x: u32) -> Counters
+        ensures { result ≡ counted_nothing self x }
+    {
+        self
+    }
 
-// With one frame more delivered, and its x extra frames.
-fn with_delivery(t: Counters, x: u32) -> Counters
-    ensures { result ≡ counted_delivery t x }
-{
-    let mut next = t;
-    next.delivered = plus(t.delivered, 1);
-    with_extras(next, x)
-}
+    /// Counts a send that issued x extra frames.
+    pub fn count_send(&mut self, x: u32)
+        ensures { self.new ≡ counted_send self.old x }
+    {
+        *self = self.with_send(x);
+    }
 
-// A deliver that answers none counts nothing: x, the held frames that were tried, is not used.
-fn with_nothing(t: Counters, x: u32) -> Counters
-    ensures { result ≡ counted_nothing t x }
-{
-    t
-}
+    /// Counts an offer that was accepted; x is 1 where the frame was not deliverable, 0 where it was.
+    pub fn count_offer(&mut self, x: u32)
+        ensures { self.new ≡ counted_offer self.old x }
+    {
+        *self = self.with_offer(x);
+    }
 
-/// Counts a send that issued x extra frames.
-pub fn count_send(t: &mut Counters, x: u32)
-    ensures { t.new ≡ counted_send t.old x }
-{
-    *t = with_send(*t, x);
-}
+    /// Counts a delivery that issued x extra frames.
+    pub fn count_delivery(&mut self, x: u32)
+        ensures { self.new ≡ counted_delivery self.old x }
+    {
+        *self = self.with_delivery(x);
+    }
 
-/// Counts an offer that was accepted; x is 1 where the frame was not deliverable, 0 where it was.
-pub fn count_offer(t: &mut Counters, x: u32)
-    ensures { t.new ≡ counted_offer t.old x }
-{
-    *t = with_offer(*t, x);
-}
-
-/// Counts a delivery that issued x extra frames.
-pub fn count_delivery(t: &mut Counters, x: u32)
-    ensures { t.new ≡ counted_delivery t.old x }
-{
-    *t = with_delivery(*t, x);
-}
-
-/// Counts a deliver that answered none after x held frames were tried.
-pub fn count_nothing(t: &mut Counters, x: u32)
-    ensures { t.new ≡ counted_nothing t.old x }
-{
-    *t = with_nothing(*t, x);
-}
-
-// The borrow checker covers no function that lends a struct, so the loan is made once for each step, here; callers of these need no walk.
-
-/// The counters after a send, which is lent them.
-pub fn after_send(t: Counters, x: u32) -> Counters
-    ensures { result ≡ counted_send t x }
-{
-    let mut u = t;
-    count_send(&mut u, x);
-    u
-}
-
-/// The counters after an offer, which is lent them.
-pub fn after_offer(t: Counters, x: u32) -> Counters
-    ensures { result ≡ counted_offer t x }
-{
-    let mut u = t;
-    count_offer(&mut u, x);
-    u
-}
-
-/// The counters after a delivery, which is lent them.
-pub fn after_delivery(t: Counters, x: u32) -> Counters
-    ensures { result ≡ counted_delivery t x }
-{
-    let mut u = t;
-    count_delivery(&mut u, x);
-    u
-}
-
-/// The counters after a deliver that answered none, which is lent them.
-pub fn after_nothing(t: Counters, x: u32) -> Counters
-    ensures { result ≡ counted_nothing t x }
-{
-    let mut u = t;
-    count_nothing(&mut u, x);
-    u
+    /// Counts a deliver that answered none after x held frames were tried.
+    pub fn count_nothing(&mut self, x: u32)
+        ensures { self.new ≡ counted_nothing self.old x }
+    {
+        *self = self.with_nothing(x);
+    }
 }

@@ -1,24 +1,12 @@
 -- The numbers that a step's outcome counts are small. Assumes nothing.
-use Prim.Native.Nat.{ℕ, ◌<◌}
+use Prim.Native.Nat.{ℕ}
 use mathlib.Core.Path.{◌≡◌, subst, sym}
 use native.Mathlib.Omega.{arith}
 use Rattle.causality.specs.Demand3.{World}
 use Rattle.world.proofs.Cases.{deliver-cases, offer-cases, send-cases}
 use Rattle.world.specs.Steps.{AfterStep, deliver_step, offer_step, send_step}
-use Rattle.world.specs.declared.Outcome.{Outcome}
-use Rattle.world.specs.declared.Outcome.TheVariants as outcome
+use Rattle.world.specs.Outcome.{Outcome}
 use Rattle.counting.specs.Stands.{Few}
-
--- of each case
-module _ (o : Outcome) (s : Few o) where
-  pub few-sent : (k : ℕ) → o ≡ outcome.Sent k → k < 100
-  few-sent k e = subst Few e s
-
-  pub few-nothing : (k : ℕ) → o ≡ outcome.Nothing k → k < 100
-  few-nothing k e = subst Few e s
-
-  pub few-delivered : (i k m : ℕ) → o ≡ outcome.Delivered i k m → m < 100
-  few-delivered i k m e = subst Few e s
 
 -- of what is another step's
 pub few_as : (o p : Outcome) → o ≡ p → Few p → Few o

@@ -6,8 +6,8 @@ use mathlib.Core.Option.{some}
 use mathlib.Core.Path.{◌≡◌, ◌∙◌, ap, refl, subst, sym}
 use native.Mathlib.Omega.{arith}
 use Rattle.matrix.specs.Message.{EachInRange}
-use Rattle.node.specs.declared.OfferAnswer.{OfferAnswer}
-use Rattle.node.specs.declared.OfferAnswer.TheVariants as offer_answer
+use Rattle.node.specs.OfferAnswer.{OfferAnswer}
+use Rattle.node.specs.OfferAnswer as offer_answer
 use Rattle.causality.proofs.Demand3.{accepted_once, demand3}
 use Rattle.causality.specs.AcceptedOnce.{AcceptedOnceFor}
 use Rattle.causality.specs.Demand3.{Demand3For, Event, World, offered}

@@ -3,8 +3,8 @@ use Rattle.std.specs.Prelude.{ℕ, ◌<◌, List, ◌≡◌}
 use Rattle.causality.specs.Demand3.{start}
 use Rattle.world.specs.Stored.{Holds}
 use Rattle.world.specs.declared.World.{World}
-use Rattle.world.specs.declared.Outcome.{Outcome}
-use Rattle.world.specs.declared.Outcome.TheVariants as outcome
+use Rattle.world.specs.Outcome.{Outcome}
+use Rattle.world.specs.Outcome as outcome
 use Rattle.counting.specs.State.{State}
 use Rattle.counting.specs.declared.State.{State as Stored}
 

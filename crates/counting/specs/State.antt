@@ -4,8 +4,8 @@ use Rattle.causality.specs.Demand3.{World, start}
 use Rattle.counters.specs.declared.Counters.{Counters}
 use Rattle.counters.specs.Counted.{no_counters, counted_send, counted_offer, counted_delivery, counted_nothing}
 use Rattle.world.specs.Steps.{AfterStep}
-use Rattle.world.specs.declared.Outcome.{Outcome}
-use Rattle.world.specs.declared.Outcome.TheVariants as outcome
+use Rattle.world.specs.Outcome.{Outcome}
+use Rattle.world.specs.Outcome as outcome
 
 -- the world of its list of steps, and the counters (document 01: the tally)
 pub record State : Type 0 where

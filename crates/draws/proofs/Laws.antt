@@ -1,5 +1,6 @@
 -- The steps of draws name nodes and issues that there are, and no send goes to its sender. Assumes nothing.
 use Prim.Native.Nat.{◌%◌, ◌+◌, ◌-◌, ◌/◌, ◌<◌, ◌≤◌, ℕ}
+use Rattle.std.specs.Prelude.{None, Option, Some}
 use mathlib.Core.Bool.{cond}
 use mathlib.Core.Path.{◌≡◌}
 use native.Mathlib.Decide.{dec_lt}
@@ -9,7 +10,7 @@ use lib.Dec.{eqb, leb}
 use Rattle.wire.proofs.Tests.{cond_elim, neqb→ne}
 use Rattle.draws.specs.Draws.{delivery_of, offer_of, send_of, step_of}
 use Rattle.draws.specs.declared.Draw.{Draw}
-use Rattle.draws.specs.declared.Draw.TheVariants.{Send, Offer, Deliver, Nothing}
+use Rattle.draws.specs.declared.Draw.TheVariants.{Send, Offer, Deliver}
 
 -- k + 1 places past the node f, round n nodes, is another node
 other-node : (n f k : ℕ) → f < n → k + 1 < n → (f + 1 + k) % n ≡ f → ⊥
@@ -23,13 +24,13 @@ other-node n f k h l e = go (dec_lt (f + 1 + k) n)
         omega (arith, mod-eq-sub-mod around, mod-eq_of_lt less)
 
 -- what a step has to keep to, of n nodes and c issues
-unfoldable InRange : ℕ → ℕ → Draw → Type 0
-InRange n c (Send f t) = (f < n) × (t < n) × (t ≡ f → ⊥)
-InRange n c (Offer m) = (1 ≤ m) × (m ≤ c)
-InRange n c (Deliver j) = j < n
-InRange n c Nothing = Unit {0}
+unfoldable InRange : ℕ → ℕ → Option Draw → Type 0
+InRange n c (Some (Send f t)) = (f < n) × (t < n) × (t ≡ f → ⊥)
+InRange n c (Some (Offer m)) = (1 ≤ m) × (m ≤ c)
+InRange n c (Some (Deliver j)) = j < n
+InRange n c None = Unit {0}
 
-send_in_range : (n c v : ℕ) → 2 ≤ n → InRange n c (send_of n v)
+send_in_range : (n c v : ℕ) → 2 ≤ n → InRange n c (Some (send_of n v))
 unfolding send_of InRange
 send_in_range n c v h =
     let f : ℕ = (v / 4) % n in
@@ -41,26 +42,26 @@ send_in_range n c v h =
 offer_in_range : (n c v : ℕ) → InRange n c (offer_of c v)
 unfolding offer_of InRange
 offer_in_range n c v =
-    cond_elim (InRange n c) (eqb c 0) Nothing (Offer ((v / 4) % c + 1)) (λ t. tt)
+    cond_elim (InRange n c) (eqb c 0) None (Some (Offer ((v / 4) % c + 1))) (λ t. tt)
     (λ t. let some : 0 < c = omega (arith, neqb→ne c 0 t) in let less : (v / 4) % c < c = mod-lt (v / 4) some in (omega arith, omega arith))
 
 step_in_range : (n c v : ℕ) → 2 ≤ n → InRange n c (step_of n c v)
 unfolding step_of delivery_of InRange
 step_in_range n c v h =
-    cond_elim (InRange n c) (eqb (v % 4) 0) (send_of n v) (cond (leb (v % 4) 2) (offer_of c v) (delivery_of n v)) (λ t. send_in_range n c v h)
-    (λ t. cond_elim (InRange n c) (leb (v % 4) 2) (offer_of c v) (delivery_of n v) (λ t. offer_in_range n c v) (λ t. mod-lt (v / 4) (omega arith)))
+    cond_elim (InRange n c) (eqb (v % 4) 0) (Some (send_of n v)) (cond (leb (v % 4) 2) (offer_of c v) (Some (delivery_of n v))) (λ t. send_in_range n c v h)
+    (λ t. cond_elim (InRange n c) (leb (v % 4) 2) (offer_of c v) (Some (delivery_of n v)) (λ t. offer_in_range n c v) (λ t. mod-lt (v / 4) (omega arith)))
 
 -- the sender and the destination of a send are two nodes that there are
-pub send-range : (n c v f t : ℕ) → 2 ≤ n → step_of n c v ≡ Send f t → (f < n) × (t < n) × (t ≡ f → ⊥)
+pub send-range : (n c v f t : ℕ) → 2 ≤ n → step_of n c v ≡ Some (Send f t) → (f < n) × (t < n) × (t ≡ f → ⊥)
 unfolding InRange
 send-range n c v f t h e = rw e at (step_in_range n c v h)
 
 -- an issue that is offered is one of 1 to c
-pub offer-range : (n c v m : ℕ) → 2 ≤ n → step_of n c v ≡ Offer m → (1 ≤ m) × (m ≤ c)
+pub offer-range : (n c v m : ℕ) → 2 ≤ n → step_of n c v ≡ Some (Offer m) → (1 ≤ m) × (m ≤ c)
 unfolding InRange
 offer-range n c v m h e = rw e at (step_in_range n c v h)
 
 -- the node of a delivery is one that there is
-pub delivery-range : (n c v j : ℕ) → 2 ≤ n → step_of n c v ≡ Deliver j → j < n
+pub delivery-range : (n c v j : ℕ) → 2 ≤ n → step_of n c v ≡ Some (Deliver j) → j < n
 unfolding InRange
 delivery-range n c v j h e = rw e at (step_in_range n c v h)

@@ -1,6 +1,6 @@
--- What is left of the checks 9 to 11 once their first tests are passed. Assumes nothing.
+-- The walk over the entries of 11, and what passing 8 tells. Assumes nothing.
 use Prim.Native.Nat.{◌*◌, ◌+◌, ◌-◌, ◌<◌, ◌≤◌, suc, zero, ℕ}
-use mathlib.Core.Bool.{Bool, ◌&&◌, ◌||◌, and_assoc, and-true, false, not, or-false, or-true, true}
+use mathlib.Core.Bool.{Bool, ◌&&◌, ◌||◌, and_assoc, and-true, false, not, true}
 use mathlib.Core.List.{List, [], ◌∷◌}
 use mathlib.Core.Path.{◌∙◌, ◌≡◌, ap, refl, sym}
 use native.Mathlib.Decide.{dec_lt, ℕ_discrete}
@@ -9,50 +9,15 @@ use borrow.Author.Tests.{eq-eqb, le-leb, le-ltb, lt-leb, lt-ltb, ne_eqb}
 use lib.Dec.{eqb, leb, leb-zero, ltb, nltb→le}
 use lib.ListN.{length}
 use Rattle.frame.specs.Entries.{entries_from, entry_at}
-use Rattle.frame.specs.Header.{header}
-use Rattle.frame.specs.Refusals.{precedes, each_ok, entry_ok, frame_refusal, rising, rising_after, wrong_address}
-use Rattle.frame.specs.Refusals.{wrong_body, wrong_cap, wrong_content, wrong_entries, wrong_kind, wrong_trailer}
+use Rattle.frame.specs.Refusals.{precedes, each_ok, entry_ok, rising, rising_after}
+use Rattle.frame.specs.Refusals.{wrong_entries, wrong_trailer}
 use Rattle.frame.specs.declared.entries.Entry.{Entry}
 use Rattle.frame.specs.declared.header.Header.{Header}
 use Rattle.wire.proofs.Tests.{no_three, not-not, of_false}
 use Rattle.wire.proofs.Trailer.{trailed}
 use Rattle.wire.specs.Bytes.{AllBytes}
-use Rattle.wire.specs.Limits.{max_count, max_frame}
+use Rattle.wire.specs.Limits.{max_frame}
 use Rattle.wire.specs.Trailer.{count_back, has_trailer}
-
--- 9
-pub kind-reserved : (h : Header) → (h.reserved ≡ 0 → ⊥) → wrong_kind h ≡ true
-unfolding wrong_kind
-kind-reserved h r = rw (ne_eqb h.reserved 0 r) (or-true (not (eqb h.kind 1 || eqb h.kind 2)))
-
-pub kind-user : (h : Header) → h.reserved ≡ 0 → h.kind ≡ 1 → wrong_kind h ≡ false
-unfolding wrong_kind
-kind-user h r k = simp (eq-eqb h.reserved 0 r, eq-eqb h.kind 1 k)
-
-pub kind-left : (h : Header) → h.reserved ≡ 0 → (h.kind ≡ 1 → ⊥) → wrong_kind h ≡ not (eqb h.kind 2)
-unfolding wrong_kind
-kind-left h r k = simp (eq-eqb h.reserved 0 r, ne_eqb h.kind 1 k, or-false)
-
--- 10
-pub address_left : (n : ℕ) (h : Header) → h.n ≡ n → wrong_cap n h ≡ false → h.from < n → h.to < n → wrong_address n h ≡ eqb h.from h.to
-unfolding wrong_address
-address_left n h a b c d = simp (eq-eqb h.n n a, b, lt-ltb h.from n c, lt-ltb h.to n d)
-
--- 11, an entry
-pub entry-left : (n : ℕ) (h : Header) (a : Entry) → a.row < n → a.column < n → (a.row ≡ a.column → ⊥)
-    → (a.column ≡ h.from → ⊥) → 1 ≤ a.value → a.value ≤ max_count
-    → h.kind ≡ 2 → entry_ok n h a ≡ eqb a.column h.to
-unfolding entry_ok
-entry-left n h a p q r s t u k =
-    simp (
-      lt-ltb a.row n p,
-      lt-ltb a.column n q,
-      ne_eqb a.row a.column r,
-      ne_eqb a.column h.from s,
-      le-leb 1 a.value t,
-      le-leb a.value max_count u,
-      eq-eqb h.kind 2 k,
-    )
 
 -- the place of an entry, of which the rows are the high bytes and the columns the low ones: it rises as document 01 has it, by row then column
 abbrev pub place_of : Entry → ℕ
@@ -151,46 +116,10 @@ walk_fails n h s e b f = sym (entries-walk n h (entries_from s 0 e) (narrow s b 
 pub walk-holds : (n : ℕ) (h : Header) (s : List ℕ) (e : ℕ) → AllBytes s → ok_from n h 0 (entries_from s 0 e) ≡ true → false ≡ wrong_entries n h (entries_from s 0 e)
 walk-holds n h s e b f = sym (entries-walk n h (entries_from s 0 e) (narrow s b 0 e) ∙ ap not f)
 
--- 11, test by test, of a frame whose count pointed back is right
-module _ (n : ℕ) (s : List ℕ) (h : Header) (e : h ≡ header s) (back : count_back s ≡ length s - 4) where
-  pub content_count : (8 + 6 * h.e + h.b ≡ length s - 4 → ⊥) → wrong_content n s ≡ true
-  unfolding wrong_content
-  content_count p = rw (← e, back, ne_eqb (8 + 6 * h.e + h.b) (length s - 4) p)
-
-  pub content_body : 8 + 6 * h.e + h.b ≡ length s - 4 → wrong_body h ≡ true → wrong_content n s ≡ true
-  unfolding wrong_content
-  content_body p b = rw (← e, back, eq-eqb (8 + 6 * h.e + h.b) (length s - 4) p, b)
-
-  pub content_cap : 8 + 6 * h.e + h.b ≡ length s - 4 → wrong_body h ≡ false → h.cap < h.e → wrong_content n s ≡ true
-  unfolding wrong_content
-  content_cap p b c = rw (← e, back, eq-eqb (8 + 6 * h.e + h.b) (length s - 4) p, b, lt-ltb h.cap h.e c)
-
-  pub content_left : 8 + 6 * h.e + h.b ≡ length s - 4 → wrong_body h ≡ false → h.e ≤ h.cap → wrong_content n s ≡ wrong_entries n h (entries_from s 0 h.e)
-  unfolding wrong_content
-  content_left p b c = rw (← e, back, eq-eqb (8 + 6 * h.e + h.b) (length s - 4) p, b, le-ltb h.cap h.e c)
-
 -- what passing 8 tells: the header can be read, and the count pointed back is right
-pub trailer-passed : (s : List ℕ) → wrong_trailer s ≡ false → (12 ≤ length s) × (count_back s ≡ length s - 4)
+pub trailer_passed : (s : List ℕ) → wrong_trailer s ≡ false → (12 ≤ length s) × (count_back s ≡ length s - 4)
 unfolding wrong_trailer
-trailer-passed s e =
+trailer_passed s e =
     let t = no_three (ltb (length s) 12) (ltb max_frame (length s)) (not (has_trailer s))
     (of_false (ltb (length s) 12 || ltb max_frame (length s) || not (has_trailer s)) e) in
     (nltb→le (length s) 12 t.0, (trailed s (not-not (has_trailer s) t.2)).count)
-
--- the refusal, check by check, in rising order
-module _ (n : ℕ) (s : List ℕ) (h : Header) (e : h ≡ header s) (p : wrong_trailer s ≡ false) where
-  pub refusal_9 : wrong_kind h ≡ true → frame_refusal n s ≡ 9
-  unfolding frame_refusal
-  refusal_9 k = rw (p, ← e, k)
-
-  pub refusal_10 : wrong_kind h ≡ false → wrong_address n h ≡ true → frame_refusal n s ≡ 10
-  unfolding frame_refusal
-  refusal_10 k a = rw (p, ← e, k, a)
-
-  pub refusal_11 : wrong_kind h ≡ false → wrong_address n h ≡ false → wrong_content n s ≡ true → frame_refusal n s ≡ 11
-  unfolding frame_refusal
-  refusal_11 k a c = rw (p, ← e, k, a, c)
-
-  pub refusal-none : wrong_kind h ≡ false → wrong_address n h ≡ false → wrong_content n s ≡ false → frame_refusal n s ≡ 0
-  unfolding frame_refusal
-  refusal-none k a c = rw (p, ← e, k, a, c)

@@ -10,6 +10,7 @@ pub mod Written
 pub mod Reading
 pub mod Carried
 pub mod RoundTrip
+pub mod Parts
 pub mod Framing
 pub mod Frames
 pub mod Exchange

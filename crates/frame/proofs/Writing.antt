@@ -2,7 +2,7 @@
 use Prim.Native.Nat.{◌%◌, ◌*◌, ◌+◌, ◌-◌, ◌/◌, ◌<◌, ◌≤◌, suc, zero, ℕ}
 use mathlib.Core.List.{List, [], ◌∷◌, ◌++◌, append-nil}
 use mathlib.Core.Path.{◌∙◌, ◌≡◌, ap, refl, sym}
-use native.Mathlib.Decide.{dec_le, ℕ_discrete}
+use native.Mathlib.Decide.{ℕ_discrete}
 use native.Mathlib.Nat.{zero-add}
 use native.Mathlib.Omega.{arith}
 use lib.ListN.{drop, drop_of_length-le, get_or, length, length-append, length-drop, take, take-append-drop}
@@ -87,16 +87,6 @@ rows-rest m x e h =
 
 pub rows_end : (m : List ℕ) (x : ℕ) → length m ≡ 144 → 12 ≤ x → listed (12 * x) (drop (12 * x) m) ≡ []
 rows_end m x e h = ap (listed (12 * x)) (drop_of_length-le m {i = 12 * x} (omega arith)) ∙ listed_nil (12 * x)
-
--- before the end of the whole a row is left
-pub writing_row : (o₀ : List ℕ) (at : ℕ) (whole : List Entry) (o : List ℕ) (pos : ℕ) (m : List ℕ) (x : ℕ)
-    → Writing o₀ at whole o pos (listed (12 * x) (drop (12 * x) m)) → length m ≡ 144
-    → pos < at + 6 * length whole → x < 12
-writing_row o₀ at whole o pos m x w e h = go (dec_le 12 x)
-  where
-    go : Dec (12 ≤ x) → x < 12
-    go (yes k) = absurd (omega (arith, w.place, ap length (rows_end m x e k)))
-    go (no k) = omega arith
 
 -- the entries of a run of places that are zero but for one
 none-placed : (r k : ℕ) (f : ℕ → ℕ) → ((i : ℕ) → k ≤ i → i < k + r → f i ≡ 0) → listed k (list_from k r f) ≡ []

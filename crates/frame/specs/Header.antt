@@ -2,11 +2,18 @@
 use Rattle.std.specs.Prelude.{ℕ, ◌+◌, ◌*◌, cond, List, [], ◌∷◌, eqb, get_or}
 use Rattle.matrix.specs.Message.{Kind, user, extra}
 use Rattle.frame.specs.declared.header.Header.{Header}
+use Rattle.frame.specs.declared.header.Kind.{Kind as NamedKind}
+use Rattle.frame.specs.declared.header.Kind.TheVariants as named_kind
 
 -- kind: 1 user, 2 extra
 abbrev pub kind_byte : Kind → ℕ
 kind_byte user = 1
 kind_byte extra = 2
+
+-- the kind that the code names
+abbrev pub kind_named : NamedKind → Kind
+kind_named named_kind.User = user
+kind_named named_kind.Extra = extra
 
 -- the kind that a byte reads as
 abbrev pub kind_of : ℕ → Kind

@@ -1,25 +1,21 @@
 //! The refusal of a run of bytes as a frame: document 01's checks 8 to 11, each a function of its own, in rising order.
 ghost use Rattle.std.specs.Prelude.{◌≡◌, ◌+◌, ◌-◌, ◌*◌, ◌≤◌, length};
+ghost use Rattle.refusal.specs.Numbers.{met};
 ghost use Rattle.wire.specs.Trailer.{count_back};
 ghost use Rattle.frame.specs.Header.{header};
 ghost use Rattle.frame.specs.Entries.{entries_from};
 ghost use Rattle.frame.specs.Refusals.{wrong_trailer, wrong_kind, wrong_cap, wrong_address, wrong_body, entry_ok, wrong_entries, wrong_content, frame_refusal};
 
 use super::entries::Entry;
-use super::header::Header;
+use super::header::{Header, Kind};
+use refusal::Refusal;
 
 // 8: the length is not 12 to 802, or a trailer field is wrong.
 #[tactic(auto, using(std::proofs::lemmas::Grind::common_steps), unfolding(crate::specs::Refusals::wrong_trailer))]
 fn wrong_trailer(s: &[u8]) -> bool
     ensures { result ≡ wrong_trailer s.now }
 {
-    if s.len() < 12 {
-        return true;
-    }
-    if wire::MAX_FRAME < s.len() {
-        return true;
-    }
-    !wire::has_trailer(s)
+    s.len() < 12 || wire::MAX_FRAME < s.len() || !wire::has_trailer(s)
 }
 
 // 9: the kind is not 1 or 2, or byte 7 is not zero.
@@ -27,13 +23,7 @@ fn wrong_trailer(s: &[u8]) -> bool
 fn wrong_kind(h: Header) -> bool
     ensures { result ≡ wrong_kind h }
 {
-    if h.reserved != 0 {
-        return true;
-    }
-    if h.kind == 1 {
-        return false;
-    }
-    h.kind != 2
+    !(h.kind == Kind::User.byte() || h.kind == Kind::Extra.byte()) || h.reserved != 0
 }
 
 // The cap is below n or above n * n.
@@ -41,10 +31,7 @@ fn wrong_kind(h: Header) -> bool
 fn wrong_cap(h: Header, n: u8) -> bool
     ensures { result ≡ wrong_cap n h }
 {
-    if h.cap < n {
-        return true;
-    }
-    (n as u32) * (n as u32) < h.cap as u32
+    h.cap < n || u32::from(n) * u32::from(n) < u32::from(h.cap)
 }
 
 // 10: n is another, the cap breaks its rule, from or to is not below n, or they are equal.
@@ -52,19 +39,7 @@ fn wrong_cap(h: Header, n: u8) -> bool
 fn wrong_address(h: Header, n: u8) -> bool
     ensures { result ≡ wrong_address n h }
 {
-    if h.n != n {
-        return true;
-    }
-    if wrong_cap(h, n) {
-        return true;
-    }
-    if n <= h.from {
-        return true;
-    }
-    if n <= h.to {
-        return true;
-    }
-    h.from == h.to
+    h.n != n || wrong_cap(h, n) || n <= h.from || n <= h.to || h.from == h.to
 }
 
 // The body's length is above 64, or not 0 in an extra.
@@ -72,42 +47,26 @@ fn wrong_address(h: Header, n: u8) -> bool
 fn wrong_body(h: Header) -> bool
     ensures { result ≡ wrong_body h }
 {
-    if wire::MAX_BODY < h.b as usize {
-        return true;
-    }
-    if h.kind != 2 {
-        return false;
-    }
-    h.b != 0
+    wire::MAX_BODY < usize::from(h.b) || (h.kind == Kind::Extra.byte() && h.b != 0)
 }
 
-// Whether an entry keeps the rules that look at it alone.
+// Whether an entry keeps the rules that look at it alone. The test of the kind is a statement, since the loop over the entries then
+// takes it once for all of them.
 #[tactic(auto, using(std::proofs::lemmas::Grind::common_steps), unfolding(crate::specs::Refusals::entry_ok))]
 fn entry_ok(h: Header, n: u8, a: Entry) -> bool
     ensures { result ≡ entry_ok n h a }
 {
-    if n <= a.row {
-        return false;
+    if h.kind == Kind::Extra.byte() {
+        if a.column != h.to {
+            return false;
+        }
     }
-    if n <= a.column {
-        return false;
-    }
-    if a.row == a.column {
-        return false;
-    }
-    if a.column == h.from {
-        return false;
-    }
-    if a.value < 1 {
-        return false;
-    }
-    if wire::MAX_COUNT < a.value {
-        return false;
-    }
-    if h.kind != 2 {
-        return true;
-    }
-    a.column == h.to
+    a.row < n
+        && a.column < n
+        && a.row != a.column
+        && a.column != h.from
+        && 1 <= a.value
+        && a.value <= wire::MAX_COUNT
 }
 
 // An entry breaks a rule. `least` is the least place, 256 * row + column, that comes behind the last entry.
@@ -115,20 +74,15 @@ fn wrong_entries(s: &[u8], h: Header, n: u8) -> bool
     requires { 8 + 6 * h.e ≤ length s.now }
     ensures { result ≡ wrong_entries n h (entries_from s.now 0 h.e) }
 {
-    let e = h.e as usize;
     let mut least: u32 = 0;
-    let mut k: usize = 0;
-    while k < e {
+    let e = usize::from(h.e);
+    for k in 0..e {
         let a = super::entries::read(s, k);
-        if !entry_ok(h, n, a) {
-            return true;
-        }
-        let place = 256 * (a.row as u32) + a.column as u32;
-        if place < least {
+        let place = 256 * u32::from(a.row) + u32::from(a.column);
+        if !entry_ok(h, n, a) || place < least {
             return true;
         }
         least = place + 1;
-        k += 1;
     }
     false
 }
@@ -139,34 +93,29 @@ fn wrong_content(s: &[u8], h: Header, n: u8) -> bool
     requires { (h ≡ header s.now) × (4 ≤ length s.now) × (count_back s.now ≡ length s.now - 4) }
     ensures { result ≡ wrong_content n s.now }
 {
-    if 8 + 6 * (h.e as usize) + h.b as usize != s.len() - 4 {
-        return true;
-    }
-    if wrong_body(h) {
-        return true;
-    }
-    if h.cap < h.e {
-        return true;
-    }
-    wrong_entries(s, h, n)
+    8 + 6 * usize::from(h.e) + usize::from(h.b) != s.len() - 4
+        || wrong_body(h)
+        || h.cap < h.e
+        || wrong_entries(s, h, n)
 }
 
-/// Why s, which may have any length, is no frame among n nodes: 8, 9, 10 or 11, the first that is met, and 0 where s is a frame.
-pub fn refusal(s: &[u8], n: u8) -> u8
-    ensures { result ≡ frame_refusal n s.now }
+/// Whether s, which may have any length, is a frame among n nodes, and where it is none, the first that is met of 8 to 11.
+#[tactic(auto, using(crate::proofs::Checks::trailer_passed), unfolding(crate::specs::Refusals::frame_refusal))]
+pub fn check(s: &[u8], n: u8) -> Result<(), Refusal>
+    ensures { met result ≡ frame_refusal n s.now }
 {
     if wrong_trailer(s) {
-        return 8;
+        return Err(Refusal::DamagedFrame);
     }
     let h = super::header::read(s);
     if wrong_kind(h) {
-        return 9;
+        return Err(Refusal::UnknownKind);
     }
     if wrong_address(h, n) {
-        return 10;
+        return Err(Refusal::OtherPlant);
     }
     if wrong_content(s, h, n) {
-        return 11;
+        return Err(Refusal::BadParts);
     }
-    0
+    Ok(())
 }

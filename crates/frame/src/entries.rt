@@ -1,4 +1,5 @@
 //! The entries: one read from a frame, and those of a matrix or of one of its columns written.
+// A writer is handed the lent buffer and a place in it, and gives the place after what it wrote.
 ghost use Rattle.std.specs.Prelude.{◌≡◌, ◌+◌, ◌*◌, ◌≤◌, ◌<◌, length, take, drop};
 ghost use Rattle.wire.specs.Bytes.{put};
 ghost use Rattle.matrix.specs.Matrix.{only};
@@ -14,6 +15,7 @@ pub struct Entry {
 }
 
 /// Entry k of a frame.
+#[tactic(auto, using(std::proofs::lemmas::Grind::common_steps), unfolding(crate::specs::Entries::entry_at))]
 pub fn read(s: &[u8], k: usize) -> Entry
     requires { 8 + 6 * k + 6 ≤ length s.now }
     ensures { result ≡ entry_at s.now k }
@@ -56,48 +58,47 @@ fn write_place(out: &mut [u8], at: usize, x: usize, y: usize, v: u32) -> usize
     at + 6
 }
 
+// Kept: `write_row` and `write_column` go along a row and down a column, each promises another list; one function over a stride would state both and be no plainer.
 // Writes the non-zero entries of row x, and gives the place after them.
 fn write_row(out: &mut [u8], at: usize, m: &[u32; 144], x: usize) -> usize
-    requires { (at + 6 * length (listed (12 * x) (take 12 (drop (12 * x) m.now))) ≤ length out.old) × (length m.now ≡ 144) × (x < 12) }
+    requires { (at + 6 * length (listed (12 * x) (take 12 (drop (12 * x) m.now))) ≤ length out.old) × (x < 12) }
     ensures { (result ≡ at + 6 * length (listed (12 * x) (take 12 (drop (12 * x) m.now))))
         × (out.new ≡ put out.old at (entries_bytes (listed (12 * x) (take 12 (drop (12 * x) m.now))))) }
 {
     let mut pos = at;
-    let mut y: usize = 0;
-    while y < 12 {
+    for y in 0..12 {
         pos = write_place(out, pos, x, y, m[12 * x + y]);
-        y += 1;
     }
     pos
 }
 
 /// Writes the e non-zero entries of a matrix, and gives the place after them; the rows behind the last of them are not looked at.
 pub fn write(out: &mut [u8], at: usize, m: &[u32; 144], e: usize) -> usize
-    requires { (at + 6 * e ≤ length out.old) × (length m.now ≡ 144) × (e ≡ length (entries_of (entry m.now))) }
+    requires { (at + 6 * e ≤ length out.old) × (e ≡ length (entries_of (entry m.now))) }
     ensures { (result ≡ at + 6 * length (entries_of (entry m.now)))
         × (out.new ≡ put out.old at (entries_bytes (entries_of (entry m.now)))) }
 {
     let end = at + 6 * e;
     let mut pos = at;
-    let mut x: usize = 0;
-    while pos < end {
+    for x in 0..12 {
+        if end <= pos {
+            break;
+        }
         pos = write_row(out, pos, m, x);
-        x += 1;
     }
     pos
 }
 
+// Kept: the twin of `write_row`; why, stands there.
 /// Writes the non-zero entries of column l, and gives the place after them.
 pub fn write_column(out: &mut [u8], at: usize, m: &[u32; 144], l: usize) -> usize
-    requires { (at + 6 * length (entries_of (only l (entry m.now))) ≤ length out.old) × (length m.now ≡ 144) × (l < 12) }
+    requires { (at + 6 * length (entries_of (only l (entry m.now))) ≤ length out.old) × (l < 12) }
     ensures { (result ≡ at + 6 * length (entries_of (only l (entry m.now))))
         × (out.new ≡ put out.old at (entries_bytes (entries_of (only l (entry m.now))))) }
 {
     let mut pos = at;
-    let mut x: usize = 0;
-    while x < 12 {
+    for x in 0..12 {
         pos = write_place(out, pos, x, l, m[12 * x + l]);
-        x += 1;
     }
     pos
 }

@@ -1,11 +1,36 @@
 //! The header: read from the front of a frame, and written.
+// Kept: a field stands at an offset that the format gives, in bytes that are lent, so a write is handed both; an offset is no length beside a buffer.
 ghost use Rattle.std.specs.Prelude.{◌≡◌, ◌+◌, ◌≤◌, length};
 ghost use Rattle.wire.specs.Bytes.{put};
-ghost use Rattle.frame.specs.Header.{header, header_bytes, own_length};
+ghost use Rattle.frame.specs.Header.{kind_byte, kind_named, kind_of, header, header_bytes, own_length};
+
+/// What a frame is: a user frame, or an extra one that trim issues.
+#[derive(Clone, Copy, Debug, PartialEq, Eq)]
+pub enum Kind {
+    User = 1,
+    Extra = 2,
+}
+
+impl Kind {
+    /// Its byte in a header.
+    pub fn byte(self) -> u8
+        ensures { result ≡ kind_byte (kind_named self) }
+    {
+        self as u8
+    }
+
+    /// The kind that a byte reads as; a frame that has passed 9 has no other byte than these two.
+    pub fn of(byte: u8) -> Kind
+        ensures { kind_named result ≡ kind_of byte }
+    {
+        if byte == 1 { Kind::User } else { Kind::Extra }
+    }
+}
 
 /// The first eight bytes of a frame: e is the entry count, b the body length, and the reserved byte is zero.
 #[derive(Clone, Copy)]
 pub struct Header {
+    // Kept: a header is read before it is checked, so its kind may be any byte; the definition `wrong_kind` (check 9) tests it.
     pub kind: u8,
     pub from: u8,
     pub to: u8,
@@ -17,6 +42,7 @@ pub struct Header {
 }
 
 /// The header of a frame.
+#[tactic(auto, using(std::proofs::lemmas::Grind::common_steps), unfolding(crate::specs::Header::header))]
 pub fn read(s: &[u8]) -> Header
     requires { 8 ≤ length s.now }
     ensures { result ≡ header s.now }
@@ -34,10 +60,11 @@ pub fn read(s: &[u8]) -> Header
 }
 
 /// A frame's length by its own e and b.
+#[tactic(auto, using(std::proofs::lemmas::Grind::common_steps), unfolding(crate::specs::Header::own_length))]
 pub fn own_length(h: Header) -> usize
     ensures { result ≡ own_length h }
 {
-    12 + 6 * (h.e as usize) + h.b as usize
+    12 + 6 * usize::from(h.e) + usize::from(h.b)
 }
 
 /// Writes a header from `at` on.
@@ -45,12 +72,5 @@ pub fn write(out: &mut [u8], at: usize, h: Header)
     requires { at + 8 ≤ length out.old }
     ensures { out.new ≡ put out.old at (header_bytes h) }
 {
-    out[at] = h.kind;
-    out[at + 1] = h.from;
-    out[at + 2] = h.to;
-    out[at + 3] = h.e;
-    out[at + 4] = h.b;
-    out[at + 5] = h.n;
-    out[at + 6] = h.cap;
-    out[at + 7] = h.reserved;
+    out[at..at + 8].copy_from_slice(&[h.kind, h.from, h.to, h.e, h.b, h.n, h.cap, h.reserved]);
 }

@@ -3,12 +3,13 @@ use Prim.Native.Nat.{◌*◌, ◌+◌, ◌-◌, ◌<◌, ◌≤◌, suc, zero, �
 use mathlib.Core.List.{List, [], ◌++◌, ◌∷◌, append_assoc}
 use mathlib.Core.Path.{◌∙◌, ◌≡◌, ap, refl, sym}
 use native.Mathlib.Nat.{zero-add}
-use native.Mathlib.Numerals.{add-one}
 use native.Mathlib.Omega.{arith}
-use lib.ListN.{drop, get_or, length, length-append, length-set, set, take}
-use lib.Seq.{drop-append-add, drop-append-le, drop-length, take-append-add, take_at}
+use lib.ListN.{drop, length, length-append, length-drop, take}
+use lib.Seq.{drop-append-add, drop-append-le, drop_at, drop-drop, drop-length, length-take-le, take-append-add, take_at}
+use borrow.Rule.Slice.PartMut.{put_mid}
+use Rattle.std.specs.List.{copy_within}
 use Rattle.holdback.proofs.Slots.{EachFits, held-fit, length-held, length-padded, length-slots, length-zeros, zeros-drop}
-use Rattle.holdback.specs.Slots.{held_frames, laid, padded, slots, without, zeros}
+use Rattle.holdback.specs.Slots.{held_frames, laid, padded, queue_size, slots, without, zeros}
 use Rattle.wire.proofs.Bytes.{put-eq}
 use Rattle.wire.specs.Bytes.{put}
 use Rattle.wire.specs.Limits.{max_frame, max_held}
@@ -52,87 +53,87 @@ slots_append (suc k) (t ∷ l) s p f h =
     put-later (padded t) (slots k l) s (length l) (length-padded t f.0) (room k (length l) l s f.1 h (omega arith))
     ∙ ap (λ (r : List ℕ). padded t ++ r) (slots_append k l s (omega arith) f.1 h)
 
--- slot i
-pub slots_at : (k i : ℕ) (l : List (List ℕ)) → i < length l → length l ≤ k → EachFits l → take max_frame (drop (max_frame * i) (slots k l)) ≡ padded (get_or l i [])
+-- all filled slots as they are, and a slot cleared behind them
+slots_lower : (k : ℕ) (l : List (List ℕ)) → length l ≤ k → EachFits l
+    → take (max_frame * length l) (slots k l) ++ (zeros max_frame ++ drop (max_frame * length l) (slots k l)) ≡ slots (suc k) l
 unfolding slots
-slots_at k i [] p h f = absurd (omega arith)
-slots_at zero i (s ∷ l) p h f = absurd (omega arith)
-slots_at (suc k) zero (s ∷ l) p h f = take_at (padded s) (slots k l) max_frame (length-padded s f.0)
-slots_at (suc k) (suc i) (s ∷ l) p h f =
-    let e : max_frame * suc i ≡ length (padded s) + max_frame * i = omega (arith, length-padded s f.0) in
-    rw (e, drop-append-add (padded s) (slots k l) (max_frame * i)) (slots_at k i l (omega arith) (omega arith) f.1)
+slots_lower k [] h f = refl
+slots_lower zero (t ∷ l) h f = absurd (omega arith)
+slots_lower (suc k) (t ∷ l) h f =
+    let e : max_frame * suc (length l) ≡ length (padded t) + max_frame * length l = omega (arith, length-padded t f.0) in
+    rw (
+      e,
+      take-append-add (padded t) (slots k l) (max_frame * length l),
+      drop-append-add (padded t) (slots k l) (max_frame * length l),
+      append_assoc,
+    ) (ap (λ (r : List ℕ). padded t ++ r) (slots_lower k l (omega arith) f.1))
 
--- a slot written over with a frame in its slot
-pub slots_set : (k i : ℕ) (l : List (List ℕ)) (s : List ℕ) → i < length l → length l ≤ k → EachFits l → length s ≤ max_frame
-    → put (slots k l) (max_frame * i) (padded s) ≡ slots k (set l i s)
-unfolding slots
-slots_set k i [] s p h f g = absurd (omega arith)
-slots_set zero i (t ∷ l) s p h f g = absurd (omega arith)
-slots_set (suc k) zero (t ∷ l) s p h f g = put_whole (padded t) (slots k l) (padded s) (length-padded s g ∙ sym (length-padded t f.0))
-slots_set (suc k) (suc i) (t ∷ l) s p h f g =
-    put-later (padded t) (slots k l) (padded s) i (length-padded t f.0) (room k i l (padded s) f.1 (omega (arith, length-padded s g)) (omega arith))
-    ∙ ap (λ (r : List ℕ). padded t ++ r) (slots_set k i l s (omega arith) (omega arith) f.1 g)
-
--- the last of the filled slots cleared
-pub slots-clear : (k i : ℕ) (l : List (List ℕ)) → suc i ≡ length l → length l ≤ k → EachFits l
-    → put (slots k l) (max_frame * i) (zeros max_frame) ≡ slots k (without i l)
+-- the m slots behind slot i moved down over it, and the last that was filled cleared
+slots-without : (k i : ℕ) (l : List (List ℕ)) (m : ℕ) → suc (i + m) ≡ length l → length l ≤ k → EachFits l
+    → take (max_frame * i) (slots k l) ++ (take (max_frame * m) (drop (max_frame * suc i) (slots k l)) ++ (zeros max_frame ++ drop (max_frame * length l) (slots k l)))
+    ≡ slots k (without i l)
 unfolding slots without
-slots-clear k i [] p h f = absurd (omega arith)
-slots-clear zero i (t ∷ l) p h f = absurd (omega arith)
-slots-clear (suc k) zero (t ∷ []) p h f = put_whole (padded t) (slots k []) (zeros max_frame) (length-zeros max_frame ∙ sym (length-padded t f.0))
-slots-clear (suc k) zero (t ∷ u ∷ l) p h f = absurd (omega arith)
-slots-clear (suc k) (suc i) (t ∷ l) p h f =
-    put-later (padded t) (slots k l) (zeros max_frame) i (length-padded t f.0) (room k i l (zeros max_frame) f.1 (omega (arith, length-zeros max_frame))
-    (omega arith)) ∙ ap (λ (r : List ℕ). padded t ++ r) (slots-clear k i l (omega arith) (omega arith) f.1)
+slots-without k i [] m p h f = absurd (omega arith)
+slots-without zero i (t ∷ l) m p h f = absurd (omega arith)
+slots-without (suc k) zero (t ∷ l) m p h f =
+    let e : max_frame * suc (length l) ≡ length (padded t) + max_frame * length l = omega (arith, length-padded t f.0) in
+    let n : m ≡ length l = omega arith in
+    rw (
+      e,
+      drop_at (padded t) (slots k l) max_frame (length-padded t f.0),
+      drop-append-add (padded t) (slots k l) (max_frame * length l),
+      n,
+    ) (slots_lower k l (omega arith) f.1)
+slots-without (suc k) (suc i) (t ∷ l) m p h f =
+    let e : max_frame * suc (length l) ≡ length (padded t) + max_frame * length l = omega (arith, length-padded t f.0) in
+    let a : max_frame * suc i ≡ length (padded t) + max_frame * i = omega (arith, length-padded t f.0) in
+    let b : max_frame * suc (suc i) ≡ length (padded t) + max_frame * suc i = omega (arith, length-padded t f.0) in
+    rw (
+      e,
+      b,
+      a,
+      take-append-add (padded t) (slots k l) (max_frame * i),
+      drop-append-add (padded t) (slots k l) (length (padded t) + max_frame * i),
+      drop-append-add (padded t) (slots k l) (max_frame * length l),
+      append_assoc,
+      ← a,
+    ) (ap (λ (r : List ℕ). padded t ++ r) (slots-without k i l m (omega arith) (omega arith) f.1))
 
--- the frame behind place i moved down to it: what is to be removed now stands one further
-without_moved : (i : ℕ) (l : List (List ℕ)) → suc i < length l → without (suc i) (set l i (get_or l (suc i) [])) ≡ without i l
-unfolding without
-without_moved i [] h = absurd (omega arith)
-without_moved zero (s ∷ []) h = absurd (omega arith)
-without_moved zero (s ∷ t ∷ l) h = refl
-without_moved (suc i) (s ∷ l) h = ap (λ (r : List (List ℕ)). s ∷ r) (without_moved i l (omega arith))
+-- the same as the code does it: z are the bytes with which the last slot is filled
+pub removed : (q : List ℕ) (l : List (List ℕ)) (held k : ℕ) → q ≡ laid l → length l ≡ held → k < held → held ≤ max_held → EachFits l → (z : List ℕ) → z ≡ zeros max_frame
+    → put_mid (max_frame * held - max_frame) (max_frame * held - (max_frame * held - max_frame))
+    (copy_within q (max_frame * k + max_frame) (max_frame * held) (max_frame * k)) z ≡ laid (without k l)
+removed q l held k e p h most f z zeroed =
+    let m : ℕ = held - suc k in
+    let n : max_frame * held - (max_frame * k + max_frame) ≡ max_frame * m = omega arith in
+    let b : max_frame * k + max_frame ≡ max_frame * suc k = omega arith in
+    let long : length q ≡ max_frame * max_held = ap length e ∙ length-slots max_held l f in
+    let front : List ℕ = take (max_frame * k) q ++ take (max_frame * m) (drop (max_frame * suc k) q) in
+    let r : List ℕ = drop (max_frame * k + max_frame * m) q in
+    let fits : length front ≡ max_frame * held - max_frame =
+    omega (
+      arith,
+      length-append (take (max_frame * k) q) (take (max_frame * m) (drop (max_frame * suc k) q)),
+      length-take-le (max_frame * k) q (omega arith),
+      length-take-le (max_frame * m) (drop (max_frame * suc k) q) (omega (arith, length-drop (max_frame * suc k) q)),
+    ) in
+    let end : max_frame * k + max_frame * m + (max_frame * held - (max_frame * held - max_frame)) ≡ max_frame * length l = omega arith in
+    rw (n, b, zeroed)
+    (rw (
+      take_at front r (max_frame * held - max_frame) fits,
+      drop_at front r (max_frame * held - max_frame) fits,
+      drop-drop (max_frame * held - (max_frame * held - max_frame)) (max_frame * k + max_frame * m) q,
+      end,
+      append_assoc,
+      e,
+    ) (slots-without max_held k l m (omega arith) (omega arith) f))
 
-fits-set : (i : ℕ) (l : List (List ℕ)) (s : List ℕ) → EachFits l → length s ≤ max_frame → EachFits (set l i s)
-fits-set i [] s f g = tt
-fits-set zero (t ∷ l) s f g = (g, f.1)
-fits-set (suc i) (t ∷ l) s f g = (f.0, fits-set i l s f.1 g)
-
-fits-at : (i : ℕ) (l : List (List ℕ)) → EachFits l → length (get_or l i []) ≤ max_frame
-fits-at i [] f = omega arith
-fits-at zero (t ∷ l) f = f.0
-fits-at (suc i) (t ∷ l) f = fits-at i l f.1
-
--- while the frame at place k of l is removed, place i is the gap: the queue is that of some frames which, without the one there, are what is to be left
-pub record Moving (l : List (List ℕ)) (k i : ℕ) (q : List ℕ) : Type 0 where
-  pub frames : List (List ℕ)
-  pub queue : q ≡ laid frames
-  pub many : length frames ≡ length l
-  pub fit : EachFits frames
-  pub left : without i frames ≡ without k l
-
-pub moving_start : (l : List (List ℕ)) (k : ℕ) (q : List ℕ) → q ≡ laid l → EachFits l → Moving l k k q
-moving_start l k q e f = record { frames = l; queue = e; many = refl; fit = f; left = refl }
-
-module _ (l : List (List ℕ)) (k i : ℕ) (q q' : List ℕ) (m : Moving l k i q) (most : length l ≤ max_held) where
-  pub moving_turn : i + 1 < length l → q' ≡ put q (max_frame * i) (take max_frame (drop (max_frame * i + max_frame) q)) → Moving l k (i + 1) q'
-  moving_turn h e =
-      let s : List ℕ = get_or m.frames (i + 1) [] in
-      let p : max_frame * i + max_frame ≡ max_frame * (i + 1) = omega arith in
-      let g : length s ≤ max_frame = fits-at (i + 1) m.frames m.fit in
-      record {
-        frames = set m.frames i s;
-        queue =
-            e ∙ rw (m.queue, p, slots_at max_held (i + 1) m.frames (omega (arith, m.many)) (omega (arith, m.many)) m.fit)
-            (slots_set max_held i m.frames s (omega (arith, m.many)) (omega (arith, m.many)) m.fit g);
-        many = length-set m.frames i s ∙ m.many;
-        fit = fits-set i m.frames s m.fit g;
-        left = rw add-one (without_moved i m.frames (omega (arith, m.many)) ∙ m.left);
-      }
-
-  pub moving_end : i + 1 ≡ length l → q' ≡ put q (max_frame * i) (zeros max_frame) → q' ≡ laid (without k l)
-  moving_end h e =
-      e ∙ rw m.queue (slots-clear max_held i m.frames (omega (arith, m.many)) (omega (arith, m.many)) m.fit) ∙ ap laid m.left
+-- the last slot that was filled, as the code has it
+pub length_last : (q : List ℕ) (held : ℕ) → length q ≡ queue_size → 0 < held → held ≤ max_held
+    → length (take (max_frame * held - (max_frame * held - max_frame)) (drop (max_frame * held - max_frame) q)) ≡ max_frame
+length_last q held e l h =
+    let n : max_frame * held - (max_frame * held - max_frame) ≡ max_frame = omega arith in
+    rw n (length-take-le max_frame (drop (max_frame * held - max_frame) q) (omega (arith, length-drop (max_frame * held - max_frame) q)))
 
 -- a frame laid behind those that a queue holds
 pub held-behind : (k : ℕ) (q s : List ℕ) → k < max_held → length s ≤ max_frame → q ≡ laid (held_frames k q)

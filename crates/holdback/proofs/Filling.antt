@@ -17,6 +17,7 @@ use Rattle.holdback.specs.Places.{frame_at, slot_at}
 use Rattle.holdback.specs.Slots.{held_frames, held_messages, queue_size}
 use Rattle.holdback.specs.Steps.{all_zero, key_of, slot_key, some_equal}
 use Rattle.protocol.specs.Node.{Node}
+use Rattle.std.proofs.Common.{Some, None}
 use Rattle.wire.proofs.Tests.{of_false}
 use Rattle.wire.specs.Limits.{max_frame, max_held, max_nodes}
 
@@ -49,20 +50,19 @@ module _ (d : Node) (held : ℕ) (q : List ℕ) (most : held ≤ max_held) (size
   unfolding held_frames
   filling_start l e = record { most = omega arith; many = e; right = rw sub-zero; keys = refl }
 
-  module _ (l : List ℕ) (i k : ℕ) (f : Filling d held q l i) where
+  module _ (l : List ℕ) (i : ℕ) (f : Filling d held q l i) where
     -- a slot that is wrong, and one that is right
-    pub filling-wrong : i < held → k ≡ slot_key d (slot_at q i) → k ≡ 0 → wrong_queue d held q ≡ true
-    filling-wrong h e z =
-        queue-split d held q most size ∙ rw (f.right ∙ wrong-rest d held i q h, key_wrong d (slot_at q i) (sym e ∙ z))
+    pub filling-wrong : i < held → slot_key d (slot_at q i) ≡ None → wrong_queue d held q ≡ true
+    filling-wrong h e = queue-split d held q most size ∙ rw (f.right ∙ wrong-rest d held i q h, key_wrong d (slot_at q i) e)
 
-    pub filling-more : i < held → k ≡ slot_key d (slot_at q i) → (k ≡ 0 → ⊥) → Filling d held q (set l i k) (i + 1)
-    filling-more h e z =
-        let t = key_told d (slot_at q i) (λ p. z (e ∙ p)) in
+    pub filling-more : (k : ℕ) → i < held → slot_key d (slot_at q i) ≡ Some k → Filling d held q (set l i k) (i + 1)
+    filling-more k h e =
+        let t = key_told d (slot_at q i) k e in
         record {
           most = omega arith;
           many = length-set l i k ∙ f.many;
           right = f.right ∙ wrong-rest d held i q h ∙ rw t.0;
-          keys = keys-more q l i k (omega (arith, f.many)) (e ∙ t.1) f.keys;
+          keys = keys-more q l i k (omega (arith, f.many)) t.1 f.keys;
         }
 
     -- all are right: then the rest of the queue, and the keys

@@ -1,7 +1,6 @@
 -- Laws of the hold-back queue, for the proofs here and for callers.
 pub mod Slots
 pub mod Changes
-pub mod Moves
 pub mod Checking
 pub mod Held
 pub mod Searched

@@ -19,10 +19,6 @@ pub zeros-none : zeros 0 ≡ []
 unfolding zeros
 zeros-none = refl
 
-pub zeros-more : (k j : ℕ) → j < k → zeros (k - j) ≡ 0 ∷ zeros (k - (j + 1))
-unfolding zeros
-zeros-more k j h = let e : k - j ≡ suc (k - (j + 1)) = omega arith in rw e
-
 pub zeros_add : (j k : ℕ) → zeros j ++ zeros k ≡ zeros (j + k)
 unfolding zeros
 zeros_add j k = replicate-append-replicate j k 0

@@ -41,13 +41,14 @@ module _ (me : ℕ) (deliv : List ℕ) (held : ℕ) (q : List ℕ) where
   pub try_none : (i : ℕ) → Trying me deliv held q i → held ≤ i → Tried me deliv held q 0
   try_none i t h n cap m l = sym (t n cap m l ∙ first-none (deliverable (node_with me n cap m deliv l)) held q i h)
 
-  module _ (i : ℕ) (h : Header) (t : Trying me deliv held q i) (p : i < held) (c : CheckedFrame (frame_at q i)) (e : h ≡ header (frame_at q i)) where
-    pub try-next : ready_from me deliv (frame_at q i) 0 h.e ≡ false → Trying me deliv held q (i + 1)
+  -- the frame in slot i, as it is lent
+  module _ (i : ℕ) (h : Header) (s : List ℕ) (t : Trying me deliv held q i) (p : i < held) (f : s ≡ frame_at q i) (c : CheckedFrame s) (e : h ≡ header s) where
+    pub try-next : ready_from me deliv s 0 h.e ≡ false → Trying me deliv held q (i + 1)
     try-next w n cap m l =
         t n cap m l
-        ∙ first-skip (deliverable (node_with me n cap m deliv l)) held q i p (deliverable-walk (frame_at q i) h me deliv c e n cap m l ∙ rw sub-zero at w)
+        ∙ first-skip (deliverable (node_with me n cap m deliv l)) held q i p (rw f at (deliverable-walk s h me deliv c e n cap m l ∙ rw sub-zero at w))
 
-    pub try-hit : ready_from me deliv (frame_at q i) 0 h.e ≡ true → Tried me deliv held q (i + 1)
+    pub try-hit : ready_from me deliv s 0 h.e ≡ true → Tried me deliv held q (i + 1)
     try-hit w n cap m l =
         sym (t n cap m l
-        ∙ first_hit (deliverable (node_with me n cap m deliv l)) held q i p (deliverable-walk (frame_at q i) h me deliv c e n cap m l ∙ rw sub-zero at w))
+        ∙ first_hit (deliverable (node_with me n cap m deliv l)) held q i p (rw f at (deliverable-walk s h me deliv c e n cap m l ∙ rw sub-zero at w)))

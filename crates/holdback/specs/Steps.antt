@@ -1,5 +1,5 @@
 -- What the steps of check 4 compute, for the contracts of the functions that take them.
-use Rattle.std.specs.Prelude.{◌*◌, ◌+◌, ℕ, Bool, ◌&&◌, ◌||◌, cond, false, not, true, List, [], ◌∷◌, eqb}
+use Rattle.std.specs.Prelude.{◌*◌, ◌+◌, ℕ, Bool, ◌&&◌, ◌||◌, cond, false, not, true, Option, Some, None, List, [], ◌∷◌, eqb}
 use Rattle.frame.specs.Frame.{decode}
 use Rattle.holdback.specs.WrongQueue.{held_refused, same_bytes}
 use Rattle.holdback.specs.Slots.{frame_in, padded}
@@ -19,9 +19,9 @@ wrong_slot d slot = held_refused d (frame_in slot) || not (same_bytes slot (padd
 unfoldable pub key_of : Message → ℕ
 key_of m = 16 * number m + m.from
 
--- the key of the message in a slot, and 0 where the slot is wrong
-unfoldable pub slot_key : Node → List ℕ → ℕ
-slot_key d slot = cond (wrong_slot d slot) 0 (key_of (decode (frame_in slot)))
+-- the key of the message in a slot, and none where the slot is wrong
+unfoldable pub slot_key : Node → List ℕ → Option ℕ
+slot_key d slot = cond (wrong_slot d slot) None (Some (key_of (decode (frame_in slot))))
 
 -- k is one of a list
 unfoldable pub among : ℕ → List ℕ → Bool

@@ -1,7 +1,8 @@
 //! The hold-back queue (document 01: the shelf): sixteen slots of 802 bytes in a lent slice.
+// Kept: the queue's bytes are lent and how many frames it holds stands in the record, by document 01; so each function is handed both.
 #![tactic(auto)]
 
-ghost use Rattle.std.specs.Prelude.{◌≡◌, List, [], ◌∷◌, ◌++◌, ℕ, ◌+◌, ◌*◌, ◌≤◌, ◌<◌, length, take, drop};
+ghost use Rattle.std.specs.Prelude.{◌≡◌, List, [], ◌∷◌, ◌++◌, ℕ, ◌+◌, ◌*◌, ◌≤◌, ◌<◌, is_err, length, take, drop};
 ghost use Rattle.wire.specs.Bytes.{put};
 ghost use Rattle.wire.specs.Limits.{max_frame, max_held, max_nodes};
 ghost use Rattle.matrix.specs.Message.{Message, number};
@@ -12,10 +13,12 @@ ghost use Rattle.protocol.specs.Deliver.{search};
 ghost use Rattle.arrival.specs.View.{node_with};
 ghost use Rattle.arrival.specs.CheckedFrame.{CheckedFrame};
 ghost use Rattle.holdback.specs.Slots.{queue_size, zeros, laid, held_frames, held_messages, without};
-ghost use Rattle.holdback.specs.Places.{slot_at, place_of};
-ghost use Rattle.holdback.specs.WrongQueue.{wrong_queue};
+ghost use Rattle.holdback.specs.Places.{slot_at, frame_at, place_of, place_number};
+ghost use Rattle.holdback.specs.WrongQueue.{held_refused, wrong_queue};
 ghost use Rattle.holdback.specs.CheckedQueue.{CheckedQueue};
-ghost use Rattle.holdback.specs.Steps.{all_zero, slot_key, among, some_equal};
+ghost use Rattle.holdback.specs.Steps.{all_zero, slot_key, some_equal};
+
+use refusal::Refusal;
 
 /// Bytes of the queue.
 pub const QUEUE_SIZE: usize = wire::MAX_HELD * wire::MAX_FRAME;
@@ -28,41 +31,16 @@ pub fn hold(q: &mut [u8], held: usize, s: &[u8])
     wire::copy(q, wire::MAX_FRAME * held, s);
 }
 
-// Copies the slot behind the one at `at` over it.
-fn move_down(q: &mut [u8], at: usize)
-    requires { at + max_frame + max_frame ≤ length q.old }
-    ensures { q.new ≡ put q.old at (take max_frame (drop (at + max_frame) q.old)) }
-{
-    let mut j: usize = 0;
-    while j < wire::MAX_FRAME {
-        q[at + j] = q[at + wire::MAX_FRAME + j];
-        j += 1;
-    }
-}
-
-// Clears the slot at `at`.
-fn clear(q: &mut [u8], at: usize)
-    requires { at + max_frame ≤ length q.old }
-    ensures { q.new ≡ put q.old at (zeros max_frame) }
-{
-    let mut j: usize = 0;
-    while j < wire::MAX_FRAME {
-        q[at + j] = 0;
-        j += 1;
-    }
-}
-
 /// Takes the frame in slot k out: the later ones move down, and the last slot that was filled becomes zero.
 pub fn remove(q: &mut [u8], held: usize, k: usize)
     requires { (length q.old ≡ queue_size) × (held ≤ max_held) × (k < held) × (q.old ≡ laid (held_frames held q.old)) }
     ensures { q.new ≡ laid (without k (held_frames held q.old)) }
 {
-    let mut i = k;
-    while i + 1 < held {
-        move_down(q, wire::MAX_FRAME * i);
-        i += 1;
-    }
-    clear(q, wire::MAX_FRAME * i);
+    let at = wire::MAX_FRAME * k;
+    let next = at + wire::MAX_FRAME;
+    let end = wire::MAX_FRAME * held;
+    q.copy_within(next..end, at);
+    q[end - wire::MAX_FRAME..end].fill(0);
 }
 
 /// The end of the frame in slot i, by its own e and b.
@@ -75,31 +53,34 @@ pub fn frame_end(q: &[u8], i: usize) -> usize
     start + frame::header::own_length(frame::header::read(&q[start..stop]))
 }
 
-/// The place, counted from 1, of the first held frame that is deliverable at node me, and 0 where none is.
-pub fn search(q: &[u8], held: usize, me: u8, deliv: &[u32; 12]) -> usize
+// The frame held in slot i.
+fn held_frame(q: &[u8], held: usize, i: usize) -> &[u8]
+    requires { CheckedQueue held q.now × (i < held) }
+    ensures same { result.now ≡ frame_at q.now i }
+    ensures sound { CheckedFrame result.now }
+{
+    let start = wire::MAX_FRAME * i;
+    let end = frame_end(q, i);
+    &q[start..end]
+}
+
+/// The slot, counted from 0, of the first held frame that is deliverable at node me.
+pub fn search(q: &[u8], held: usize, me: u8, deliv: &[u32; 12]) -> Option<usize>
     requires { CheckedQueue held q.now }
     ensures { (n cap : ℕ) (m : List ℕ) (l : List Message)
-        → result ≡ place_of (search (deliverable (node_with me n cap m deliv.now l)) (held_messages held q.now)) }
+        → place_number result ≡ place_of (search (deliverable (node_with me n cap m deliv.now l)) (held_messages held q.now)) }
 {
-    let mut next: usize = 0;
-    'slots: while next < held {
-        let at = next;
-        next += 1;
-        let start = wire::MAX_FRAME * at;
-        let end = frame_end(q, at);
-        let h = frame::header::read(&q[start..end]);
-        let e = h.e as usize;
-        let mut k: usize = 0;
-        while k < e {
-            let a = frame::entries::read(&q[start..end], k);
-            if !arrival::entry_ready(a, me, deliv) {
+    'slots: for at in 0..held {
+        let s = held_frame(q, held, at);
+        let e = frame::header::read(s).e as usize;
+        for k in 0..e {
+            if !arrival::entry_ready(frame::entries::read(s, k), me, deliv) {
                 continue 'slots;
             }
-            k += 1;
         }
-        return at + 1;
+        return Some(at);
     }
-    0
+    None
 }
 
 // Whether a sound frame has this from and number.
@@ -107,11 +88,7 @@ fn same_origin(s: &[u8], from: u8, k: u32) -> bool
     requires { CheckedFrame s.now }
     ensures { (g : Message) → from ≡ g.from → k ≡ number g → result ≡ same_origin (decode s.now) g }
 {
-    let h = frame::header::read(s);
-    if h.from != from {
-        return false;
-    }
-    arrival::number(s) == k
+    frame::header::read(s).from == from && arrival::number(s) == k
 }
 
 /// Whether a held frame has the same from and number as the sound frame s.
@@ -121,14 +98,10 @@ pub fn alike(q: &[u8], held: usize, s: &[u8]) -> bool
 {
     let h = frame::header::read(s);
     let number = arrival::number(s);
-    let mut i: usize = 0;
-    while i < held {
-        let start = wire::MAX_FRAME * i;
-        let end = frame_end(q, i);
-        if same_origin(&q[start..end], h.from, number) {
+    for i in 0..held {
+        if same_origin(held_frame(q, held, i), h.from, number) {
             return true;
         }
-        i += 1;
     }
     false
 }
@@ -140,61 +113,47 @@ fn all_zero(s: &[u8]) -> bool
     let low = s.len() / 2;
     let high = s.len() - low;
     let mut acc: u8 = 0;
-    let mut at: usize = 0;
-    while at < high {
+    for at in 0..high {
         acc = acc | s[at] | s[low + at];
-        at += 1;
     }
     acc == 0
 }
 
-// The key of the frame in a slot, 16 * number + from, and 0 where the slot is wrong, whatever the node's cap.
-fn slot_key(slot: &[u8], me: u8, n: u8, m: &[u32; 144], deliv: &[u32; 12]) -> u64
+// Whether the frame in a slot would meet none of 8 to 14, and where it would, the first of them.
+fn judged(s: &[u8], me: u8, n: u8, m: &[u32; 144], deliv: &[u32; 12]) -> Result<(), Refusal>
+    requires { n ≤ max_nodes }
+    ensures { (cap : ℕ) → is_err result ≡ held_refused (node_with me n cap m.now deliv.now []) s.now }
+{
+    frame::check::check(s, n)?;
+    arrival::check(s, me, m, deliv)
+}
+
+// The key of the frame in a slot, 16 * number + from, and none where the slot is wrong, whatever the node's cap.
+fn slot_key(slot: &[u8], me: u8, n: u8, m: &[u32; 144], deliv: &[u32; 12]) -> Option<u64>
     requires { (length slot.now ≡ max_frame) × (n ≤ max_nodes) }
     ensures { (cap : ℕ) → result ≡ slot_key (node_with me n cap m.now deliv.now []) slot.now }
 {
     let h = frame::header::read(slot);
     let len = frame::header::own_length(h);
     if wire::MAX_FRAME < len {
-        return 0;
+        return None;
     }
-    if frame::check::refusal(&slot[..len], n) != 0 {
-        return 0;
+    let (s, padding) = slot.split_at(len);
+    judged(s, me, n, m, deliv).ok()?;
+    if !all_zero(padding) {
+        return None;
     }
-    if arrival::refusal(&slot[..len], me, m, deliv) != 0 {
-        return 0;
-    }
-    if !all_zero(&slot[len..]) {
-        return 0;
-    }
-    16 * (arrival::number(&slot[..len]) as u64) + h.from as u64
-}
-
-// Whether k is one of the keys from place `at` on.
-fn among(keys: &[u64], at: usize, k: u64) -> bool
-    requires { at ≤ length keys.now }
-    ensures { result ≡ among k (drop at keys.now) }
-{
-    let mut j = at;
-    while j < keys.len() {
-        if keys[j] == k {
-            return true;
-        }
-        j += 1;
-    }
-    false
+    Some(16 * u64::from(arrival::number(s)) + u64::from(h.from))
 }
 
 // Whether two of the keys are equal.
 fn some_equal(keys: &[u64]) -> bool
     ensures { result ≡ some_equal keys.now }
 {
-    let mut i: usize = 0;
-    while i < keys.len() {
-        if among(keys, i + 1, keys[i]) {
+    for i in 0..keys.len() {
+        if keys[i + 1..].contains(&keys[i]) {
             return true;
         }
-        i += 1;
     }
     false
 }
@@ -204,17 +163,14 @@ pub fn wrong_queue(q: &[u8], held: usize, me: u8, n: u8, m: &[u32; 144], deliv: 
     requires { (length q.now ≡ queue_size) × (held ≤ max_held) × (n ≤ max_nodes) }
     ensures { (cap : ℕ) → result ≡ wrong_queue (node_with me n cap m.now deliv.now []) held q.now }
 {
-    let mut keys = [0u64; 16];
-    let mut i: usize = 0;
-    while i < held {
+    let mut keys = [0u64; wire::MAX_HELD];
+    for i in 0..held {
         let start = wire::MAX_FRAME * i;
         let stop = start + wire::MAX_FRAME;
-        let key = slot_key(&q[start..stop], me, n, m, deliv);
-        if key == 0 {
+        let Some(key) = slot_key(&q[start..stop], me, n, m, deliv) else {
             return true;
-        }
+        };
         keys[i] = key;
-        i += 1;
     }
     let rest = wire::MAX_FRAME * held;
     if !all_zero(&q[rest..]) {

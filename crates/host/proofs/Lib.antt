@@ -2,3 +2,4 @@
 pub mod Left
 pub mod Refused
 pub mod TrailTold
+pub mod Written

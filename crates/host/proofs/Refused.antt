@@ -12,8 +12,8 @@ use Rattle.protocol.specs.Answer.{Label, Outcome, delivery}
 use Rattle.node.specs.Answers.{AfterDeliver, AfterOffer, AfterSend}
 use Rattle.node.specs.Calls.{accept_deliver}
 use Rattle.node.specs.SetUp.{set_up}
-use Rattle.node.specs.declared.SetUpAnswer.{SetUpAnswer}
-use Rattle.node.specs.declared.SetUpAnswer.TheVariants as set_up_answer
+use Rattle.node.specs.SetUpAnswer.{SetUpAnswer}
+use Rattle.node.specs.SetUpAnswer as set_up_answer
 use Rattle.image.specs.Image.{bad_image, image, image_size, record_in}
 use Rattle.node.proofs.Cases.{deliver-cases, offer-cases, send-cases}
 use Rattle.host.specs.Exports.{DeliverLeft, OfferLeft, SendLeft, SetUpLeft, answer_size, deliver_told, exported_deliver, exported_offer}

@@ -2,16 +2,16 @@
 -- On a refusal, set-up's too, every lent byte is as before. 20 stands where document 01 has 2.
 use Rattle.std.specs.Prelude.{ℕ, cond, List, ◌∷◌, ◌++◌, eqb, ltb, length}
 use Rattle.wire.specs.Bytes.{le16, le32, put}
-use Rattle.node.specs.declared.SetUpAnswer.{SetUpAnswer}
-use Rattle.node.specs.declared.SendAnswer.{SendAnswer}
-use Rattle.node.specs.declared.OfferAnswer.{OfferAnswer}
-use Rattle.node.specs.declared.DeliverAnswer.{DeliverAnswer}
-use Rattle.node.specs.declared.Delivered.{Delivered}
+use Rattle.node.specs.SetUpAnswer.{SetUpAnswer}
+use Rattle.node.specs.SendAnswer.{SendAnswer}
+use Rattle.node.specs.OfferAnswer.{OfferAnswer}
+use Rattle.node.specs.DeliverAnswer.{DeliverAnswer}
+use Rattle.node.specs.Delivered.{Delivered}
 use Rattle.node.specs.declared.Node.{Node as Record}
-use Rattle.node.specs.declared.SetUpAnswer.TheVariants as set_up_answer
-use Rattle.node.specs.declared.SendAnswer.TheVariants as send_answer
-use Rattle.node.specs.declared.OfferAnswer.TheVariants as offer_answer
-use Rattle.node.specs.declared.DeliverAnswer.TheVariants as deliver_answer
+use Rattle.node.specs.SetUpAnswer as set_up_answer
+use Rattle.node.specs.SendAnswer as send_answer
+use Rattle.node.specs.OfferAnswer as offer_answer
+use Rattle.node.specs.DeliverAnswer as deliver_answer
 use Rattle.node.specs.Answers.{AfterSend, AfterOffer, AfterDeliver}
 use Rattle.node.specs.SetUp.{set_up}
 use Rattle.node.specs.Calls.{send_call, offer_call, deliver_call}

@@ -2,12 +2,12 @@
 -- On a refusal all is as before.
 use Rattle.std.specs.Prelude.{ℕ, List, [], ◌∷◌, get_or}
 use Rattle.trail.specs.declared.walk.Cursor.{Cursor}
-use Rattle.trail.specs.declared.walk.StepAnswer.{StepAnswer}
-use Rattle.trail.specs.declared.walk.StepAnswer.TheVariants as step_answer
-use Rattle.trail.specs.declared.walk.WalkAnswer.{WalkAnswer}
-use Rattle.trail.specs.declared.walk.WalkAnswer.TheVariants as walk_answer
-use Rattle.trail.specs.declared.write.WriteAnswer.{WriteAnswer}
-use Rattle.trail.specs.declared.write.WriteAnswer.TheVariants as write_answer
+use Rattle.trail.specs.StepAnswer.{StepAnswer}
+use Rattle.trail.specs.StepAnswer as step_answer
+use Rattle.trail.specs.WalkAnswer.{WalkAnswer}
+use Rattle.trail.specs.WalkAnswer as walk_answer
+use Rattle.trail.specs.WriteAnswer.{WriteAnswer}
+use Rattle.trail.specs.WriteAnswer as write_answer
 use Rattle.trail.specs.Step.{step_call}
 use Rattle.trail.specs.Walk.{walk_call}
 use Rattle.trail.specs.Write.{write_call}

@@ -2,24 +2,25 @@
 ghost use Rattle.std.specs.Prelude.{◌≡◌};
 ghost use Rattle.host.specs.TrailExports.{write_left, exported_write, step_left, exported_step, walk_left, exported_walk};
 
-use trail::walk::{Cursor, StepAnswer, WalkAnswer};
-use trail::write::WriteAnswer;
+use trail::walk::{Cursor, Stepped};
 
 /// Write: the number in use becomes what it is behind the frame.
+// Kept: a number, since C has no Result.
 pub fn trail_write(file: &mut [u8], used: &mut usize, frame: &[u8]) -> u8
     ensures { write_left result file.new used.new
         ≡ exported_write file.old used.old frame.now }
 {
     match trail::write::write(file, *used, frame) {
-        WriteAnswer::Refused(why) => why,
-        WriteAnswer::Written(more) => {
+        Ok(more) => {
             *used = more;
             0
         }
+        Err(why) => why.number(),
     }
 }
 
 /// A step: the cursor's numbers are end, w, kinds, extras and most; shown are start and length, both 0 where the walk has reached the file's start.
+// Kept: a number, since C has no Result.
 pub fn trail_step(file: &[u8], cursor: &mut [u64; 5], shown: &mut [u64; 2]) -> u8
     ensures { step_left result cursor.new shown.new
         ≡ exported_step file.now cursor.old shown.old }
@@ -32,16 +33,17 @@ pub fn trail_step(file: &[u8], cursor: &mut [u64; 5], shown: &mut [u64; 2]) -> u
         most: cursor[4] as usize,
     };
     match trail::walk::step(file, c) {
-        StepAnswer::Refused(why) => why,
-        StepAnswer::End(_) => {
+        Ok(Stepped::End(_)) => {
             *shown = [0, 0];
             0
         }
-        StepAnswer::Shown {
-            start,
-            length,
-            next,
-        } => {
+        Ok(
+            Stepped::Shown {
+                start,
+                length,
+                next,
+            },
+        ) => {
             *cursor = [
                 next.end as u64,
                 next.w as u64,
@@ -52,18 +54,20 @@ pub fn trail_step(file: &[u8], cursor: &mut [u64; 5], shown: &mut [u64; 2]) -> u
             *shown = [start as u64, length as u64];
             0
         }
+        Err(why) => why.number(),
     }
 }
 
 /// The whole walk with a window of w frames: the largest count of extra frames in a window.
+// Kept: a number, since C has no Result.
 pub fn trail_walk(file: &[u8], w: usize, most: &mut usize) -> u8
     ensures { walk_left result most.new ≡ exported_walk file.now w most.old }
 {
     match trail::walk::walk(file, w) {
-        WalkAnswer::Refused(why) => why,
-        WalkAnswer::Largest(count) => {
+        Ok(count) => {
             *most = count;
             0
         }
+        Err(why) => why.number(),
     }
 }

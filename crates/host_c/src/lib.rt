@@ -7,6 +7,7 @@ ghost use Rattle.host.specs.Exports.{set_up_left, exported_set_up, send_left, ex
 ghost use Rattle.host.specs.TrailExports.{write_left, exported_write, step_left, exported_step, walk_left, exported_walk};
 
 /// Set-up: the image becomes that of the fresh record.
+// Kept: C has no Result, no enum of this kind and no type parameter; the call and its number are the C interface.
 #[unsafe(no_mangle)]
 pub extern "C" fn node_set_up(image: &mut [u8], me: usize, n: usize, cap: usize) -> u8
     ensures { set_up_left result image.new ≡ exported_set_up image.old me n cap }
@@ -15,6 +16,7 @@ pub extern "C" fn node_set_up(image: &mut [u8], me: usize, n: usize, cap: usize)
 }
 
 /// Send, as a node of this class: writes the user frame and then trim's extra frames into `out`; the answer has the extra frames and the bytes issued.
+// Kept: C has no Result, no enum of this kind and no type parameter; the call and its number are the C interface.
 #[unsafe(no_mangle)]
 pub extern "C" fn node_send(
     image: &mut [u8],
@@ -31,6 +33,7 @@ pub extern "C" fn node_send(
 }
 
 /// Offer: the frame is checked and held; the answer is all zero.
+// Kept: C has no Result, no enum of this kind and no type parameter; the call and its number are the C interface.
 #[unsafe(no_mangle)]
 pub extern "C" fn node_offer(
     image: &mut [u8],
@@ -46,6 +49,7 @@ pub extern "C" fn node_offer(
 
 /// Deliver: the first deliverable frame is taken out of the queue, its body written into `body` and trim's extra frames into `out`;
 /// the answer says which it was. Where none is deliverable the answer says how many were tried, and nothing else changes.
+// Kept: C has no Result, no enum of this kind and no type parameter; the call and its number are the C interface.
 #[unsafe(no_mangle)]
 pub extern "C" fn node_deliver(
     image: &mut [u8],
@@ -61,6 +65,7 @@ pub extern "C" fn node_deliver(
 }
 
 /// Write: the number in use becomes what it is behind the frame.
+// Kept: C has no Result, no enum of this kind and no type parameter; the call and its number are the C interface.
 #[unsafe(no_mangle)]
 pub extern "C" fn trail_write(file: &mut [u8], used: &mut usize, frame: &[u8]) -> u8
     ensures { write_left result file.new used.new
@@ -70,6 +75,7 @@ pub extern "C" fn trail_write(file: &mut [u8], used: &mut usize, frame: &[u8]) -
 }
 
 /// A step: the cursor's numbers are end, w, kinds, extras and most; shown are start and length, both 0 where the walk has reached the file's start.
+// Kept: C has no Result, no enum of this kind and no type parameter; the call and its number are the C interface.
 #[unsafe(no_mangle)]
 pub extern "C" fn trail_step(file: &[u8], cursor: &mut [u64; 5], shown: &mut [u64; 2]) -> u8
     ensures { step_left result cursor.new shown.new
@@ -79,6 +85,7 @@ pub extern "C" fn trail_step(file: &[u8], cursor: &mut [u64; 5], shown: &mut [u6
 }
 
 /// The whole walk with a window of w frames: the largest count of extra frames in a window.
+// Kept: C has no Result, no enum of this kind and no type parameter; the call and its number are the C interface.
 #[unsafe(no_mangle)]
 pub extern "C" fn trail_walk(file: &[u8], w: usize, most: &mut usize) -> u8
     ensures { walk_left result most.new ≡ exported_walk file.now w most.old }

@@ -10,11 +10,11 @@ use Rattle.wire.proofs.Bytes.{four_bytes, put-eq, two_bytes}
 use Rattle.wire.proofs.Tests.{cond_elim, cond_no, cond_yes, eq→eqb, ne→neqb}
 use Rattle.wire.specs.Bytes.{le16, le32, put, u16_at, u32_at}
 use Rattle.host.specs.Exports.{answer_bytes, answer_size, delivery_bytes, nothing_bytes, offer_bytes, send_bytes}
-use Rattle.node.specs.declared.Delivered.{Delivered}
+use Rattle.node.specs.Delivered.{Delivered}
 use Rattle.node.specs.Answers.{deliver_number}
-use Rattle.node.specs.declared.DeliverAnswer.{DeliverAnswer}
-use Rattle.node.specs.declared.SendAnswer.TheVariants as send
-use Rattle.node.specs.declared.DeliverAnswer.TheVariants as deliver
+use Rattle.node.specs.DeliverAnswer.{DeliverAnswer}
+use Rattle.node.specs.SendAnswer as send
+use Rattle.node.specs.DeliverAnswer as deliver
 use Rattle.causality.specs.Demand3.{Label, delivered, delivery}
 use Rattle.host_causality.specs.HostDemand3.{body_in, bytes_in, delivered_in, extras_in, from_in, kind_in, label_in, number_in}
 use Rattle.host_causality.specs.HostDemand3.{read_deliver, read_delivery, read_send, tried_in}

@@ -7,7 +7,7 @@ use mathlib.Core.Path.{◌∙◌, ◌≡◌, ap, ap₂, refl, sym}
 use lib.Dec.{eqb}
 use Rattle.matrix.specs.Matrix.{count}
 use Rattle.protocol.proofs.Lists.{at_map, map_at}
-use Rattle.node.specs.declared.OfferAnswer.TheVariants as offer
+use Rattle.node.specs.OfferAnswer as offer
 use Rattle.causality.specs.Ceiling.{extras, users_delivered, users_issued}
 use Rattle.causality.specs.Demand3.{Answer, DeliveredAt, Event, HappenedBefore, Issue}
 use Rattle.causality.specs.Demand3.{accepted, answers_at, chain, delivered, deliveries, delivery, message}

@@ -17,11 +17,11 @@ use Rattle.node.proofs.Told.{DeliverTold, SendTold, deliver-told, send-told}
 use Rattle.node.specs.Answers.{AfterDeliver, AfterOffer, AfterSend}
 use Rattle.node.specs.Calls.{accept_deliver, accept_send, deliver_call, offer_call, send_call, body_of, tried_by}
 use Rattle.node.specs.Record.{node_of}
-use Rattle.node.specs.declared.Delivered.{Delivered}
+use Rattle.node.specs.Delivered.{Delivered}
 use Rattle.node.specs.declared.Node.{Node as Record}
-use Rattle.node.specs.declared.SendAnswer.TheVariants as send
-use Rattle.node.specs.declared.OfferAnswer.TheVariants as offer
-use Rattle.node.specs.declared.DeliverAnswer.TheVariants as deliver
+use Rattle.node.specs.SendAnswer as send
+use Rattle.node.specs.OfferAnswer as offer
+use Rattle.node.specs.DeliverAnswer as deliver
 use Rattle.causality.specs.Demand3.{Answer, Step, bytes_issued, delivered, delivers, offered, offers, refusal, sends, sent}
 use Rattle.image.proofs.Images.{image_laws}
 use Rattle.node.proofs.Cases.{deliver-cases, offer-cases, send-cases}

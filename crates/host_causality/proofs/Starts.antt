@@ -10,11 +10,10 @@ use Rattle.wire.proofs.Tests.{cond_elim, is_true}
 use Rattle.matrix.specs.Array.{entry, vector}
 use Rattle.rules.proofs.Facts.{when_out_of_range, ranged}
 use Rattle.rules.specs.Rules.{in_range}
-use Rattle.node.specs.Answers.{set_up_number}
+use Rattle.node.specs.Answers.{set_up_number, SetUp}
 use Rattle.node.specs.Record.{broken_record}
 use Rattle.node.specs.SetUp.{fresh_record, set_up}
-use Rattle.node.specs.declared.SetUp.{SetUp}
-use Rattle.node.specs.declared.SetUpAnswer.TheVariants.{Refused, Ready}
+use Rattle.node.specs.SetUpAnswer.{Refused, Ready}
 use Rattle.soundness.proofs.HandedBack.{handed_back}
 use Rattle.causality.specs.Demand3.{start}
 use Rattle.host.specs.Exports.{SetUpLeft, exported_set_up, set_up_left, set_up_told}

@@ -9,13 +9,13 @@ use Rattle.wire.specs.Bytes.{u16_at, u32_at}
 use Rattle.matrix.specs.Message.{EachInRange}
 use Rattle.protocol.specs.Node.{update}
 use Rattle.holdback.specs.Slots.{queue_size, zeros}
-use Rattle.node.specs.declared.Delivered.{Delivered as DeliveredFrame}
-use Rattle.node.specs.declared.SendAnswer.{SendAnswer}
-use Rattle.node.specs.declared.OfferAnswer.{OfferAnswer}
-use Rattle.node.specs.declared.DeliverAnswer.{DeliverAnswer}
-use Rattle.node.specs.declared.SendAnswer.TheVariants as send
-use Rattle.node.specs.declared.OfferAnswer.TheVariants as offer
-use Rattle.node.specs.declared.DeliverAnswer.TheVariants as deliver
+use Rattle.node.specs.Delivered.{Delivered as DeliveredFrame}
+use Rattle.node.specs.SendAnswer.{SendAnswer}
+use Rattle.node.specs.OfferAnswer.{OfferAnswer}
+use Rattle.node.specs.DeliverAnswer.{DeliverAnswer}
+use Rattle.node.specs.SendAnswer as send
+use Rattle.node.specs.OfferAnswer as offer
+use Rattle.node.specs.DeliverAnswer as deliver
 use Rattle.node.specs.Sizes.{out_size}
 use Rattle.causality.specs.Demand3.{Step, sends, offers, delivers, BodiesOfBytes, Answer, sent, offered, delivered, Issue, issued_by, frames_in, Event, World}
 use Rattle.causality.specs.Demand3.{IssueAt, Label, label, destination, Delivered, Held, held_at, Earliest, Demand3For}

@@ -23,7 +23,7 @@ use Rattle.rules.proofs.Facts.{Unbroken, unbroken}
 use Rattle.node.specs.Record.{broken_record}
 use Rattle.node.specs.declared.Node.{Node as Record}
 use Rattle.image.proofs.Numbers.{length_fields}
-use Rattle.image.proofs.Read.{Good, bad-unsealed, good-image, record_cells, record_senders}
+use Rattle.image.proofs.Reading.{Good, bad-unsealed, good-image, record_cells, record_senders}
 use Rattle.image.specs.Image.{ImageLaws, SoundImage, SoundRecord, bad_image, fields, image, image_size, numbers_at, record_fields, record_in}
 
 -- ---- Fields

@@ -7,7 +7,7 @@ use native.Mathlib.Nat.{add-zero}
 use native.Mathlib.Omega.{arith}
 use lib.ListN.{drop, get_or, length, length-append, length-set, set}
 use lib.Seq.{ext_get_or, get_or-set_other, get_or-set_same}
-use Rattle.wire.proofs.Bytes.{length-le32, put_append, put-nil, rest, rest_end}
+use Rattle.wire.proofs.Bytes.{length-le32, length-put, put_append, put-nil, rest, rest_end}
 use Rattle.wire.specs.Bytes.{le32, put, u32_at}
 use Rattle.image.specs.Image.{fields, numbers_at}
 
@@ -35,12 +35,12 @@ pub record ReadTo (s : List ℕ) (at : ℕ) (a₀ a : List ℕ) (k : ℕ) : Type
   pub same : length a ≡ length a₀
   pub read : (i : ℕ) → i < k → get_or a i 0 ≡ u32_at s (at + 4 * i)
 
-pub read-start : (s : List ℕ) (at : ℕ) (a : List ℕ) → ReadTo s at a a 0
-read-start s at a = record { few = omega arith; same = refl; read = λ i h. absurd (omega arith) }
+pub read_start : (s : List ℕ) (at : ℕ) (a : List ℕ) → ReadTo s at a a 0
+read_start s at a = record { few = omega arith; same = refl; read = λ i h. absurd (omega arith) }
 
-pub read-turn : (s : List ℕ) (at : ℕ) (a₀ a : List ℕ) (k v : ℕ) → ReadTo s at a₀ a k → k < length a
+pub read_turn : (s : List ℕ) (at : ℕ) (a₀ a : List ℕ) (k v : ℕ) → ReadTo s at a₀ a k → k < length a
     → v ≡ u32_at s (at + 4 * k) → ReadTo s at a₀ (set a k v) (k + 1)
-read-turn s at a₀ a k v r h e =
+read_turn s at a₀ a k v r h e =
     record {
       few = omega (arith, r.same);
       same = length-set a k v ∙ r.same;
@@ -51,19 +51,23 @@ read-turn s at a₀ a k v r h e =
     go i l (yes q) = rw (q, get_or-set_same a k v 0 h) e
     go i l (no q) = get_or-set_other a k i v 0 q ∙ r.read i (omega arith)
 
-pub read-end : (s : List ℕ) (at : ℕ) (a₀ a : List ℕ) (k : ℕ) → ReadTo s at a₀ a k → length a ≤ k → a ≡ numbers_at s at (length a₀)
-read-end s at a₀ a k r h =
+pub read_end : (s : List ℕ) (at : ℕ) (a₀ a : List ℕ) (k : ℕ) → ReadTo s at a₀ a k → length a ≤ k → a ≡ numbers_at s at (length a₀)
+read_end s at a₀ a k r h =
     ext_get_or 0 a (numbers_at s at (length a₀)) (r.same ∙ sym (length-numbers s at (length a₀)))
     (λ i l. r.read i (omega arith) ∙ sym (get_or-numbers s at (length a₀) i (omega (arith, r.same))))
 
+-- bytes written over a list leave its length
+pub length_put : (o : List ℕ) (at : ℕ) (bs : List ℕ) → length (put o at bs) ≡ length o
+length_put o at bs = length-put o at bs
+
 -- one number more of a list that is written
-pub fields-rest : (o : List ℕ) (at : ℕ) (l : List ℕ) (k : ℕ) → k < length l
+pub fields_rest : (o : List ℕ) (at : ℕ) (l : List ℕ) (k : ℕ) → k < length l
     → put o (at + 4 * k) (fields (drop k l)) ≡ put (put o (at + 4 * k) (le32 (get_or l k 0))) (at + 4 * (k + 1)) (fields (drop (k + 1) l))
 unfolding fields
-fields-rest o at l k h =
+fields_rest o at l k h =
     let e : at + 4 * k + length (le32 (get_or l k 0)) ≡ at + 4 * (k + 1) = omega (arith, length-le32 (get_or l k 0)) in
     rw (rest l k h, put_append o (at + 4 * k) (le32 (get_or l k 0)) (fields (drop (k + 1) l)), e)
 
-pub fields-end : (o : List ℕ) (at : ℕ) (l : List ℕ) (k : ℕ) → length l ≤ k → k ≤ length l → put o at (fields (drop k l)) ≡ o
+pub fields_end : (o : List ℕ) (at : ℕ) (l : List ℕ) (k : ℕ) → length l ≤ k → k ≤ length l → put o at (fields (drop k l)) ≡ o
 unfolding fields
-fields-end o at l k h g = rw (rest_end l k h g) (put-nil o at)
+fields_end o at l k h g = rw (rest_end l k h g) (put-nil o at)

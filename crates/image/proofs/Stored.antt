@@ -13,7 +13,7 @@ use Rattle.node.specs.SetUp.{fresh_record}
 use Rattle.node.specs.declared.Node.{Node as Record}
 use Rattle.image.proofs.Images.{fields_then, length_record, rest-fields}
 use Rattle.image.proofs.Numbers.{length_fields}
-use Rattle.image.proofs.Read.{record_cells, record_senders}
+use Rattle.image.proofs.Reading.{record_cells, record_senders}
 use Rattle.image.specs.Image.{fields, image, image_size, record_fields, record_in}
 use Rattle.image.specs.Stores.{with_held, with_matrix, with_vector}
 
@@ -25,10 +25,6 @@ put_over p x y t k e h =
     let behind : drop (k + length y) o ≡ t
     = ap (drop (k + length y)) (sym (append_assoc p x t)) ∙ drop_at (p ++ x) t (k + length y) (omega (arith, length-append p x)) in
     put-eq o k y fits ∙ rw (take_at p (x ++ t) k e, behind)
-
--- bytes written over all of as many others
-pub put_whole : (x y : List ℕ) → length y ≡ length x → put x 0 y ≡ y
-put_whole x y h = ap (λ (o : List ℕ). put o 0 y) (sym (append-nil x)) ∙ put_over [] x y [] 0 refl h ∙ append-nil y
 
 -- the fields of r stand in s, with four more bytes behind
 pub record Laid (r : Record) (s : List ℕ) : Type 0 where

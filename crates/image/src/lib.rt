@@ -8,6 +8,8 @@ ghost use Rattle.node.specs.SetUp.{fresh_record};
 ghost use Rattle.image.specs.Image.{fields, numbers_at, image, record_in, image_size};
 ghost use Rattle.image.specs.Stores.{with_held, with_matrix, with_vector};
 
+use node::Node;
+
 /// Bytes of an image.
 pub const SIZE: usize = 632;
 
@@ -20,48 +22,53 @@ const MATRIX: usize = 3;
 const VECTOR: usize = 579;
 
 /// Where held stands.
-pub const HELD: usize = 627;
+const HELD: usize = 627;
 
 /// The first two reasons for 20: whether bytes have another length than an image, or a bad trailer.
 pub fn unsealed(s: &[u8]) -> bool
     ensures { result ≡ (not (eqb (length s.now) image_size) || not (has_trailer s.now)) }
 {
-    if s.len() != SIZE {
-        return true;
-    }
-    !wire::has_trailer(s)
+    s.len() != SIZE || !wire::has_trailer(s)
 }
 
 // Reads the numbers of four bytes from `at` on.
+#[tactic(auto, using(crate::proofs::Numbers::read_start, crate::proofs::Numbers::read_turn))]
 fn read_numbers(s: &[u8], at: usize, a: &mut [u32])
     requires { at + 4 * length a.old ≤ length s.now }
     ensures { a.new ≡ numbers_at s.now at (length a.old) }
 {
-    let mut k: usize = 0;
-    while k < a.len() {
-        a[k] = wire::get_u32(s, at + 4 * k);
-        k += 1;
+    for (k, v) in a.iter_mut().enumerate() {
+        *v = wire::get_u32(s, at + 4 * k);
     }
 }
 
-/// Reads M and DELIV.
-pub fn read_arrays(s: &[u8], m: &mut [u32], deliv: &mut [u32])
-    requires { (length s.now ≡ image_size) × (length m.old ≡ 144) × (length deliv.old ≡ 12) }
-    ensures { (m.new ≡ (record_in s.now).m) × (deliv.new ≡ (record_in s.now).deliv) }
+/// Reads the record of the fields in front.
+#[tactic(auto, using(crate::proofs::Reading::record_read), unfolding(crate::specs::Image::record_in))]
+pub fn read(s: &[u8]) -> Node
+    requires { length s.now ≡ image_size }
+    ensures { result ≡ record_in s.now }
 {
-    read_numbers(s, MATRIX, m);
-    read_numbers(s, VECTOR, deliv);
+    let mut node = Node {
+        me: s[0],
+        n: s[1],
+        cap: s[2],
+        m: [0; 144],
+        deliv: [0; 12],
+        held: s[HELD],
+    };
+    read_numbers(s, MATRIX, &mut node.m);
+    read_numbers(s, VECTOR, &mut node.deliv);
+    node
 }
 
 // Writes the numbers, four bytes each, from `at` on.
+#[tactic(auto, using(crate::proofs::Numbers::fields_rest, crate::proofs::Numbers::fields_end, crate::proofs::Numbers::length_put))]
 fn write_numbers(s: &mut [u8], at: usize, a: &[u32])
     requires { at + 4 * length a.now ≤ length s.old }
     ensures { s.new ≡ put s.old at (fields a.now) }
 {
-    let mut k: usize = 0;
-    while k < a.len() {
-        wire::put_u32(s, at + 4 * k, a[k]);
-        k += 1;
+    for (k, v) in a.iter().enumerate() {
+        wire::put_u32(s, at + 4 * k, *v);
     }
 }
 
@@ -70,8 +77,7 @@ pub fn store_fresh(s: &mut [u8], me: u8, n: u8, cap: u8)
     requires { length s.old ≡ image_size }
     ensures { s.new ≡ image (fresh_record me n cap) }
 {
-    let zeros = [0u8; SIZE];
-    wire::copy(s, 0, &zeros);
+    s.fill(0);
     s[0] = me;
     s[1] = n;
     s[2] = cap;
@@ -79,8 +85,8 @@ pub fn store_fresh(s: &mut [u8], me: u8, n: u8, cap: u8)
 }
 
 /// What a send leaves: another matrix.
-pub fn store_matrix(s: &mut [u8], m: &[u32])
-    requires { (length s.old ≡ image_size) × (length m.now ≡ 144) }
+pub fn store_matrix(s: &mut [u8], m: &[u32; 144])
+    requires { length s.old ≡ image_size }
     ensures { s.new ≡ image (with_matrix m.now (record_in s.old)) }
 {
     write_numbers(s, MATRIX, m);
@@ -96,13 +102,13 @@ pub fn store_held(s: &mut [u8], held: u8)
     wire::write_trailer(s, 0, FIELDS);
 }
 
-/// What a delivery leaves: another matrix, vector and number of held frames.
-pub fn store_delivery(s: &mut [u8], m: &[u32], deliv: &[u32], held: u8)
-    requires { (length s.old ≡ image_size) × (length m.now ≡ 144) × (length deliv.now ≡ 12) }
-    ensures { s.new ≡ image (with_held held (with_vector deliv.now (with_matrix m.now (record_in s.old)))) }
+/// What a delivery leaves: the node's matrix, vector and number of held frames.
+pub fn store_delivery(s: &mut [u8], node: &Node)
+    requires { length s.old ≡ image_size }
+    ensures { s.new ≡ image (with_held node.now.held (with_vector node.now.deliv (with_matrix node.now.m (record_in s.old)))) }
 {
-    write_numbers(s, MATRIX, m);
-    write_numbers(s, VECTOR, deliv);
-    s[HELD] = held;
+    write_numbers(s, MATRIX, &node.m);
+    write_numbers(s, VECTOR, &node.deliv);
+    s[HELD] = node.held;
     wire::write_trailer(s, 0, FIELDS);
 }

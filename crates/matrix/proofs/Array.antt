@@ -146,9 +146,9 @@ pub set-entry : (l : List ℕ) (a b v : ℕ) → length l ≡ 144 → a < 12 →
 set-entry l a b v e h k = ap (λ (z : List ℕ). set z (12 * a + b) v) (sym (flat_back l e)) ∙ set-flat (entry l) a b v h k
 
 -- the non-zero elements of an array, one after the other, are as many as its matrix has
-pub count-array : (l : List ℕ) → sum 144 (λ k. non_zero (get_or l k 0)) ≡ count (entry l)
+pub count_array : (l : List ℕ) → sum 144 (λ k. non_zero (get_or l k 0)) ≡ count (entry l)
 unfolding count column_count
-count-array l =
+count_array l =
     sum_upto 144 (λ k. non_zero (get_or l k 0)) (λ k. non_zero (entry l (k / 12) (k % 12))) (λ k h. ap non_zero (sym (entry_place l k h)))
     ∙ sum_rows (λ x y. non_zero (entry l x y)) 12
     ∙ sum_swap 12 12 (λ x y. non_zero (entry l x y))
@@ -161,4 +161,4 @@ count_ext f g h =
     (λ y l. sum_upto 12 (λ x. non_zero (f x y)) (λ x. non_zero (g x y)) (λ x k. ap non_zero (h x y k l)))
 
 pub count-flat : (m : Matrix) → sum 144 (λ k. non_zero (get_or (flat m) k 0)) ≡ count m
-count-flat m = count-array (flat m) ∙ count_ext (entry (flat m)) m (λ x y h k. entry-flat m x y h k)
+count-flat m = count_array (flat m) ∙ count_ext (entry (flat m)) m (λ x y h k. entry-flat m x y h k)

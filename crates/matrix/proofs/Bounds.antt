@@ -9,7 +9,7 @@ use native.Mathlib.Omega.{arith}
 use lib.ListN.{get_or}
 use Rattle.matrix.proofs.Array.{count-flat}
 use Rattle.matrix.proofs.Columns.{MatrixRules, column-zero}
-use Rattle.matrix.proofs.Matrix.{non_zero-le, non_zero-none, only_col, only_zero}
+use Rattle.matrix.proofs.Matrix.{non_zero_le, non_zero-none, only_col, only_zero}
 use Rattle.matrix.proofs.Sums.{sum-at, sum-cut, sum_ext, sum_less, sum_less_two, sum_ones, sum-single}
 use Rattle.matrix.specs.Array.{flat}
 use Rattle.matrix.specs.Matrix.{Matrix, column_count, count, non_zero, only}
@@ -24,7 +24,7 @@ module _ (n i : ℕ) (m : Matrix) (hi : i < n) (twelve : n ≤ 12) (rows : (x y 
       omega (
         arith,
         sum-cut 12 n (λ x. non_zero (m x y)) twelve (λ x a b. non_zero-none (m x y) (rows x y a b)),
-        sum_less n 1 y (λ x. non_zero (m x y)) h (non_zero-none (m y y) (diagonal y)) (λ x _. non_zero-le (m x y)),
+        sum_less n 1 y (λ x. non_zero (m x y)) h (non_zero-none (m y y) (diagonal y)) (λ x _. non_zero_le (m x y)),
       )
 
   pub count_square : count m ≤ (n - 1) * (n - 1)
@@ -93,7 +93,7 @@ only-count m l h =
 
 -- at most 144
 pub count-le : (m : Matrix) → count m ≤ 144
-count-le m = rw (← count-flat m) (sum_ones 144 (λ k. non_zero (get_or (flat m) k 0)) (λ k _. non_zero-le (get_or (flat m) k 0)))
+count-le m = rw (← count-flat m) (sum_ones 144 (λ k. non_zero (get_or (flat m) k 0)) (λ k _. non_zero_le (get_or (flat m) k 0)))
 
 -- a cap in range is at most 144
 pub cap-most : (n cap : ℕ) → InRange n cap → cap ≤ 144

@@ -62,13 +62,13 @@ one_of (suc zero) a b h = omega arith
 one_of (suc (suc s)) a b h = absurd (omega arith)
 
 -- none of it goes beyond 32 bits
-pub part-fits : (s a : ℕ) → s ≤ 1 → a ≤ max_count → Fits w32 (s * a)
-part-fits s a h p = record { fits = omega (arith, mul-le-mul h p) }
+pub part_fits : (s a : ℕ) → s ≤ 1 → a ≤ max_count → Fits w32 (s * a)
+part_fits s a h p = record { fits = omega (arith, mul-le-mul h p) }
 
-pub rest-fits : (s b : ℕ) → b ≤ max_count → Fits w32 ((1 - s) * b)
-rest-fits s b q =
+pub rest_fits : (s b : ℕ) → b ≤ max_count → Fits w32 ((1 - s) * b)
+rest_fits s b q =
     let t : 1 - s ≤ 1 = omega arith in
-    part-fits (1 - s) b t q
+    part_fits (1 - s) b t q
 
 pub sum_fits : (s a b : ℕ) → s ≤ 1 → a ≤ max_count → b ≤ max_count → Fits w32 (s * a + (1 - s) * b)
 sum_fits s a b h p q =
@@ -80,9 +80,9 @@ pub flag : (t : Bool) → eqb (bool_byte t) 1 ≡ t
 flag true = refl
 flag false = refl
 
-pub flag-le : (t : Bool) → bool_byte t ≤ 1
-flag-le true = omega arith
-flag-le false = omega arith
+pub flag_le : (t : Bool) → bool_byte t ≤ 1
+flag_le true = omega arith
+flag_le false = omega arith
 
 -- the sign of a - b, and the count that it chooses
 pub sign_le : (s : ℕ) (t : Bool) → s ≡ cond t 0 1 → s ≤ 1

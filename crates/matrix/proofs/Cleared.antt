@@ -7,7 +7,7 @@ use native.Mathlib.Decide.{dec_lt, ℕ_discrete}
 use native.Mathlib.Omega.{arith}
 use Rattle.matrix.proofs.Array.{entry-back, entry-out}
 use Rattle.matrix.proofs.Columns.{MatrixRules}
-use Rattle.matrix.proofs.Matrix.{clear-gone, clear_keep, clear-mine, non_zero-le}
+use Rattle.matrix.proofs.Matrix.{clear-gone, clear_keep, clear-mine, non_zero_le}
 use Rattle.matrix.proofs.Sums.{sum_ones}
 use Rattle.matrix.specs.Array.{entry, flat}
 use Rattle.matrix.specs.Matrix.{Matrix, clear, column_count, non_zero}
@@ -79,4 +79,4 @@ clear-limit i j k m l b x y = go (ℕ_discrete y j) (ℕ_discrete x i)
 -- a column has at most twelve entries
 pub column-le : (m : Matrix) (y : ℕ) → column_count m y ≤ 12
 unfolding column_count
-column-le m y = sum_ones 12 (λ x. non_zero (m x y)) (λ x _. non_zero-le (m x y))
+column-le m y = sum_ones 12 (λ x. non_zero (m x y)) (λ x _. non_zero_le (m x y))

@@ -6,7 +6,7 @@ use mathlib.Core.Path.{◌≡◌, sym, ap, ◌∙◌}
 use native.Mathlib.Decide.{ℕ_discrete, dec_le}
 use native.Mathlib.Omega.{arith}
 use lib.Dec.{leb, le→leb}
-use Rattle.matrix.proofs.Matrix.{largest-lt, largest-le, clear-mine, clear-gone, clear_keep, only_col, only_zero, merge-kept, merge-own, non_zero-le}
+use Rattle.matrix.proofs.Matrix.{largest-lt, largest-le, clear-mine, clear-gone, clear_keep, only_col, only_zero, merge-kept, merge-own, non_zero_le}
 use Rattle.matrix.proofs.Sums.{sum-above, sum_ext, sum-at, sum-cut, sum_less, sum_ones, sum-le, sum_change, sum-single, sum_times}
 use Rattle.matrix.specs.Matrix.{Matrix, sum, non_zero, column_count, count, fullest, clear, only, merge}
 use Rattle.wire.proofs.Tests.{cond_elim, cond_yes, cond_no, lt→nleb}
@@ -25,7 +25,7 @@ non_zero-zero v e = rw e
 -- a column that is zero from row n on has at most n entries
 pub column-few : (m : Matrix) (y n : ℕ) → ((x : ℕ) → n ≤ x → m x y ≡ 0) → column_count m y ≤ n
 unfolding column_count
-column-few m y n h = sum-le 12 n (λ x. non_zero (m x y)) (λ x _. non_zero-le (m x y)) (λ x l. non_zero-zero (m x y) (h x l))
+column-few m y n h = sum-le 12 n (λ x. non_zero (m x y)) (λ x _. non_zero_le (m x y)) (λ x l. non_zero-zero (m x y) (h x l))
 
 -- a zero column has no entries
 pub column-zero : (m : Matrix) (y : ℕ) → ((x : ℕ) → m x y ≡ 0) → column_count m y ≡ 0

@@ -1,12 +1,14 @@
 -- Laws of the matrix and of what the steps do to it, place by place. Assumes nothing.
 use Prim.Native.Nat.{◌+◌, ◌<◌, ◌≤◌, max, suc, zero, ℕ}
-use mathlib.Core.Bool.{cond}
+use mathlib.Core.Bool.{cond, not}
 use mathlib.Core.Logic.{◌≢◌, ◌⊎◌, inl, inr}
-use mathlib.Core.Path.{◌∙◌, ◌≡◌, ap, refl, sym}
+use mathlib.Core.Path.{◌∙◌, ◌≡◌, ap, refl}
 use native.Mathlib.Decide.{dec_le, ℕ_discrete}
 use native.Mathlib.Nat.{not-suc-le-zero}
 use native.Mathlib.Numerals.{add-one}
 use native.Mathlib.Omega.{arith}
+use mir.Val.{bool_byte}
+use borrow.Author.Tests.{ne_eqb}
 use lib.Dec.{eqb, ltb, ltb→lt, lt→ltb, nltb→le}
 use Rattle.matrix.specs.Matrix.{Matrix, clear, largest, merge, non_zero, only}
 use Rattle.wire.proofs.Tests.{cond_elim, cond_no, cond-other, cond_same, cond_yes, le→nltb}
@@ -78,9 +80,9 @@ merge-kept j m e x y z = go (ℕ_discrete y j)
     go (yes p) = rw p (merge-own j m e x)
     go (no p) = merge-max j m e x y p ∙ rw z (omega arith)
 
-pub non_zero-le : (v : ℕ) → non_zero v ≤ 1
-non_zero-le zero = omega arith
-non_zero-le (suc v) = omega arith
+pub non_zero_le : (v : ℕ) → non_zero v ≤ 1
+non_zero_le zero = omega arith
+non_zero_le (suc v) = omega arith
 
 pub non_zero-none : (v : ℕ) → v ≡ 0 → non_zero v ≡ 0
 non_zero-none v e = rw e
@@ -89,18 +91,20 @@ pub non_zero-one : (v : ℕ) → (v ≡ 0 → ⊥) → non_zero v ≡ 1
 non_zero-one zero h = absurd (h refl)
 non_zero-one (suc v) h = refl
 
+-- as the code counts it, a test as a number
+pub non_zero_test : (v : ℕ) → bool_byte (not (eqb v 0)) ≡ non_zero v
+non_zero_test v = go (ℕ_discrete v 0)
+  where
+    go : Dec (v ≡ 0) → bool_byte (not (eqb v 0)) ≡ non_zero v
+    go (yes e) = rw e
+    go (no e) = rw (ne_eqb v 0 e, non_zero-one v e)
+
 -- one number more: a larger value is taken, and another is not
-pub largest-first : (f : ℕ → ℕ) → largest 1 f ≡ 0
-largest-first f = cond_elim (λ (z : ℕ). z ≡ 0) (ltb (f 0) (f 0)) 0 0 (λ _. refl) (λ _. refl)
+pub largest_first : (f : ℕ → ℕ) → largest 1 f ≡ 0
+largest_first f = cond_elim (λ (z : ℕ). z ≡ 0) (ltb (f 0) (f 0)) 0 0 (λ _. refl) (λ _. refl)
 
-pub largest-taken : (k : ℕ) (f : ℕ → ℕ) → f (largest k f) < f k → largest (k + 1) f ≡ k
-largest-taken k f h = ap (λ (z : ℕ). largest z f) (add-one k) ∙ cond_yes (ltb (f (largest k f)) (f k)) k (largest k f) (lt→ltb (f (largest k f)) (f k) h)
+pub largest_taken : (k : ℕ) (f : ℕ → ℕ) → f (largest k f) < f k → largest (k + 1) f ≡ k
+largest_taken k f h = ap (λ (z : ℕ). largest z f) (add-one k) ∙ cond_yes (ltb (f (largest k f)) (f k)) k (largest k f) (lt→ltb (f (largest k f)) (f k) h)
 
-pub largest-left : (k : ℕ) (f : ℕ → ℕ) → f k ≤ f (largest k f) → largest (k + 1) f ≡ largest k f
-largest-left k f h = ap (λ (z : ℕ). largest z f) (add-one k) ∙ cond_no (ltb (f (largest k f)) (f k)) k (largest k f) (le→nltb (f (largest k f)) (f k) h)
-
--- one turn of a loop that keeps the lowest number with the largest value, and that value
-pub largest-turn : (f : ℕ → ℕ) (y best best' most : ℕ) → best ≡ largest y f → most ≡ f best
-    → ((f y ≤ most) × (best' ≡ best)) ⊎ ((most < f y) × (best' ≡ y)) → best' ≡ largest (y + 1) f
-largest-turn f y best best' most p q (inl h) = h.1 ∙ p ∙ sym (largest-left y f (rw (← p, ← q) h.0))
-largest-turn f y best best' most p q (inr h) = h.1 ∙ sym (largest-taken y f (rw (← p, ← q) h.0))
+pub largest_left : (k : ℕ) (f : ℕ → ℕ) → f k ≤ f (largest k f) → largest (k + 1) f ≡ largest k f
+largest_left k f h = ap (λ (z : ℕ). largest z f) (add-one k) ∙ cond_no (ltb (f (largest k f)) (f k)) k (largest k f) (le→nltb (f (largest k f)) (f k) h)

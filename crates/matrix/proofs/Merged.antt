@@ -7,7 +7,7 @@ use native.Mathlib.Decide.{ℕ_discrete}
 use native.Mathlib.Omega.{arith}
 use Rattle.matrix.proofs.Array.{entry-back}
 use Rattle.matrix.proofs.Cleared.{Inside, inside-entry}
-use Rattle.matrix.proofs.Matrix.{merge-from, merge-kept, merge-max, merge-own, non_zero-le}
+use Rattle.matrix.proofs.Matrix.{merge-from, merge-kept, merge-max, merge-own, non_zero_le}
 use Rattle.matrix.proofs.Stores.{single_else, single-here}
 use Rattle.matrix.proofs.Sums.{sum-above, sum_ext, sum_less_two}
 use Rattle.matrix.specs.Array.{entry, flat}
@@ -51,7 +51,7 @@ module _ (j k : ℕ) (m e : Matrix) (hj : j < 12) (hk : k < 12) (apart : k ≢ j
         arith,
         sum-above 12 (λ x. non_zero (merge j m e x y)) (λ x. non_zero (m x y)),
         sum_less_two 12 1 j y (λ x. non_zero (merge j m e x y) - non_zero (m x y)) hj h ne (same j row) (same y (merge-kept j m e y y (diagonal y)))
-            (λ x _. omega (arith, non_zero-le (merge j m e x y))),
+            (λ x _. omega (arith, non_zero_le (merge j m e x y))),
       )
     where
       row : merge j m e j y ≡ m j y

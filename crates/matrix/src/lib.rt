@@ -1,75 +1,62 @@
 //! The matrix of counts: 144 counts, row by row, so that row x and column y stand at place 12 * x + y. Nothing here knows of bytes.
 #![tactic(auto)]
 
-ghost use Rattle.std.specs.Prelude.{◌≡◌, cond, ◌<◌, ◌≤◌, max, eqb, ltb, length};
+ghost use Rattle.std.specs.Prelude.{◌≡◌, cond, ◌<◌, ◌≤◌, max, eqb, ltb};
 ghost use Rattle.wire.specs.Limits.{max_count};
 ghost use Rattle.matrix.specs.Matrix.{non_zero, count, column_count, fullest, clear, merge, single};
 ghost use Rattle.matrix.specs.Array.{flat, entry};
 
-// 1 for a count that is not zero, 0 for zero.
-fn non_zero(v: u32) -> u32
-    ensures { result ≡ non_zero v }
-{
-    if v == 0 { 0 } else { 1 }
-}
-
 /// How many entries are non-zero.
+#[tactic(auto, using(crate::proofs::Matrix::non_zero_test, crate::proofs::Matrix::non_zero_le, crate::proofs::Sums::sum_more))]
 pub fn count(m: &[u32; 144]) -> u32
-    requires { length m.now ≡ 144 }
     ensures { result ≡ count (entry m.now) }
 {
-    let mut found: u32 = 0;
-    let mut k: usize = 0;
-    while k < 144 {
-        found += non_zero(m[k]);
-        k += 1;
+    let mut found = 0;
+    for v in m {
+        found += u32::from(*v != 0);
     }
     found
 }
 
 /// How many entries of column y are non-zero.
+#[tactic(auto, using(crate::proofs::Array::entry_in, crate::proofs::Matrix::non_zero_test, crate::proofs::Matrix::non_zero_le, crate::proofs::Sums::sum_more), unfolding(crate::specs::Matrix::column_count))]
 pub fn column_count(m: &[u32; 144], y: usize) -> u32
-    requires { (length m.now ≡ 144) × (y < 12) }
+    requires { y < 12 }
     ensures { result ≡ column_count (entry m.now) y }
 {
-    let mut found: u32 = 0;
-    let mut x: usize = 0;
-    while x < 12 {
-        found += non_zero(m[12 * x + y]);
-        x += 1;
+    let mut found = 0;
+    for x in 0..12 {
+        found += u32::from(m[12 * x + y] != 0);
     }
     found
 }
 
 /// The column with the most non-zero entries, the lowest on ties.
+#[tactic(auto, using(crate::proofs::Matrix::largest_first, crate::proofs::Matrix::largest_left, crate::proofs::Matrix::largest_taken))]
 pub fn fullest(m: &[u32; 144]) -> usize
-    requires { length m.now ≡ 144 }
     ensures { result ≡ fullest (entry m.now) }
 {
-    let mut best: usize = 0;
+    let mut best = 0;
     let mut most = column_count(m, 0);
-    let mut y: usize = 1;
-    while y < 12 {
+    for y in 1..12 {
         let found = column_count(m, y);
         if most < found {
             best = y;
             most = found;
         }
-        y += 1;
     }
     best
 }
 
 /// Clears column j as after a frame from i to j.
+#[tactic(auto, using(crate::proofs::Array::entry_in, crate::proofs::Stores::emptied_none, crate::proofs::Stores::emptied_more, crate::proofs::Stores::emptied_done))]
 pub fn clear_column(m: &mut [u32; 144], i: usize, j: usize)
-    requires { (length m.old ≡ 144) × (i < 12) × (j < 12) × (entry m.old i j < 4294967295) }
+    requires { (i < 12) × (j < 12) × (entry m.old i j < 4294967295) }
     ensures { m.new ≡ flat (clear i j (entry m.old)) }
 {
     let issued = m[12 * i + j];
-    let mut x: usize = 0;
-    while x < 12 {
+    for x in 0..12 {
         m[12 * x + j] = 0;
-        x += 1;
     }
     m[12 * i + j] = issued + 1;
 }
@@ -84,6 +71,7 @@ fn sign(p: u32, q: u32) -> u32
 }
 
 // One of two counts, without a branch: a where s is 1, and b where it is 0.
+#[tactic(auto, using(crate::proofs::Choice::one_of, crate::proofs::Choice::part_fits, crate::proofs::Choice::rest_fits, crate::proofs::Choice::sum_fits))]
 fn chosen(s: u32, a: u32, b: u32) -> u32
     requires { (s ≤ 1) × (a ≤ max_count) × (b ≤ max_count) }
     ensures { result ≡ cond (eqb s 1) a b }
@@ -92,6 +80,7 @@ fn chosen(s: u32, a: u32, b: u32) -> u32
 }
 
 /// The larger of two counts, by the sign of their difference.
+#[tactic(auto, using(crate::proofs::Choice::sign_le, crate::proofs::Choice::larger_one))]
 pub fn larger(a: u32, b: u32) -> u32
     requires { (a ≤ max_count) × (b ≤ max_count) }
     ensures { result ≡ max a b }
@@ -100,10 +89,11 @@ pub fn larger(a: u32, b: u32) -> u32
 }
 
 /// Merges the entry v in row x and column y at node j: an entry of column j stays, and that too is chosen without a branch.
+#[tactic(auto, using(crate::proofs::Array::entry_in, crate::proofs::Choice::flag, crate::proofs::Choice::flag_le, crate::proofs::Stores::merge_one))]
 pub fn merge_entry(m: &mut [u32; 144], j: usize, x: usize, y: usize, v: u32)
-    requires { (length m.old ≡ 144) × (x < 12) × (y < 12) × (entry m.old x y ≤ max_count) × (v ≤ max_count) }
+    requires { (x < 12) × (y < 12) × (entry m.old x y ≤ max_count) × (v ≤ max_count) }
     ensures { m.new ≡ flat (merge j (entry m.old) (single x y v)) }
 {
     let kept = m[12 * x + y];
-    m[12 * x + y] = chosen((y == j) as u32, kept, larger(kept, v));
+    m[12 * x + y] = chosen(u32::from(y == j), kept, larger(kept, v));
 }

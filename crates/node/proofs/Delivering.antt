@@ -1,16 +1,17 @@
 -- Deliver by its refusal, and what a deliver that is not refused leaves. Assumes nothing.
-use Prim.Native.Nat.{◌-◌, ◌<◌, ◌≤◌, suc, ℕ}
+use Prim.Native.Nat.{◌+◌, ◌-◌, ◌<◌, ◌≤◌, suc, ℕ}
 use mathlib.Core.Bool.{Bool, ◌||◌, cond, false, not, true}
 use mathlib.Core.List.{List, [], map}
 use mathlib.Core.Option.{some}
-use mathlib.Core.Path.{◌∙◌, ◌≡◌, ap, refl, sym}
+use mathlib.Core.Path.{◌∙◌, ◌≡◌, ap, refl, subst, sym}
 use native.Mathlib.Omega.{arith}
-use borrow.Author.Tests.{le-ltb, lt-ltb, ne_eqb}
+use borrow.Author.Tests.{ne_eqb}
 use lib.Dec.{T, eqb, ltb, nltb→le}
-use lib.ListN.{length, length-map}
-use Rattle.node.proofs.Shared.{RecordPassed, checked-queue, held-arrives, held_carried, queue-laid, record_met, record_passed, record_past}
+use lib.ListN.{get_or, length, length-map, set}
+use Rattle.node.proofs.Shared.{checked-queue, held-arrives, held_carried, queue-laid, record_passed, record_past}
 use Rattle.node.proofs.Offering.{length_messages}
 use Rattle.arrival.proofs.Arrived.{Arrives}
+use Rattle.arrival.specs.CheckedFrame.{CheckedFrame}
 use Rattle.arrival.specs.View.{node_with}
 use Rattle.frame.proofs.Carried.{Carried}
 use Rattle.frame.specs.Frame.{decode}
@@ -29,7 +30,7 @@ use Rattle.matrix.specs.Matrix.{Matrix}
 use Rattle.matrix.specs.Message.{Kind, Message, extra, number, user}
 use Rattle.node.specs.Answers.{AfterDeliver, after_deliver}
 use Rattle.node.specs.Calls.{accept_deliver, deliver_call, refusal, refuse_deliver}
-use Rattle.node.specs.CallRefusals.{deliver_refusal, record_refusal, short_outputs}
+use Rattle.node.specs.CallRefusals.{Finds, deliver_refusal, record_refusal, short_outputs}
 use Rattle.node.specs.Record.{node_at, broken_record, node_of}
 use Rattle.node.specs.Sizes.{out_size}
 use Rattle.protocol.specs.Answer.{Outcome, accepted, delivery, label, refuse}
@@ -40,10 +41,12 @@ use Rattle.protocol.specs.Trim.{Trimmed}
 use Rattle.rules.proofs.Facts.{Unbroken}
 use Rattle.wire.proofs.Tests.{of_false, or-not, skipped}
 use Rattle.wire.specs.Bytes.{put}
-use Rattle.wire.specs.Limits.{max_body}
-use Rattle.node.specs.declared.Delivered.{Delivered}
+use Rattle.wire.specs.Limits.{max_body, max_count}
+use Rattle.node.specs.Delivered.{Delivered}
+use Rattle.node.specs.Taken.{TakenIn, learned, told_of}
+use Rattle.node.proofs.Taking.{count-up, from-below}
 use Rattle.node.specs.declared.Node.{Node as Record}
-use Rattle.node.specs.declared.DeliverAnswer.TheVariants as deliver_answer
+use Rattle.node.specs.DeliverAnswer as deliver_answer
 
 -- the checks in rising order give the refusal, and none of them an accepted deliver
 module _ (r : Record) (q out body : List ℕ) (d : Node) (o : Outcome) (a : accepted o.answer ≡ true) where
@@ -93,28 +96,6 @@ pub deliver-accepted : (r : Record) (q out body : List ℕ) → deliver_refusal 
     → accept_deliver r q out body (concluded r q) (delivery (concluded r q).answer) ≡ deliver_call r q out body
 deliver-accepted r q out body e = sym (deliver-by-refusal r q out body ∙ rw e)
 
--- the checks of a deliver one after the other
-module _ (r : Record) (q : List ℕ) (short : Bool) where
-  pub deliver_record : (k : ℕ) → k ≡ record_refusal r q short 0 → (k ≡ 0 → ⊥) → k ≡ deliver_refusal r q short
-  unfolding deliver_refusal
-  deliver_record k e h = record_met r q short k _ e h
-
-  pub deliver_5 : RecordPassed r q short → at_limit (node_at r q) ≡ true → deliver_refusal r q short ≡ 5
-  unfolding deliver_refusal
-  deliver_5 p a = record_past r q short _ p ∙ rw a
-
-  pub deliver_0 : RecordPassed r q short → at_limit (node_at r q) ≡ false → deliver_refusal r q short ≡ 0
-  unfolding deliver_refusal
-  deliver_0 p a = record_past r q short _ p ∙ rw a
-
--- the lengths of the frame output and the body output
-module _ (out body : ℕ) where
-  pub short-out : out < out_size → short_outputs out body ≡ true
-  short-out a = rw (lt-ltb out out_size a)
-
-  pub long-out : out_size ≤ out → short_outputs out body ≡ ltb body max_body
-  long-out a = rw (le-ltb out out_size a)
-
 -- what a deliver that passed its checks knows
 pub record Ready (r : Record) (q : List ℕ) (out body : ℕ) : Type 0 where
   pub sound : Unbroken r.me r.n r.cap (entry r.m) (vector r.deliv) r.held
@@ -142,29 +123,35 @@ deliver-ready r q out body e =
       free = (skipped (at_limit (node_at r q)) 5 0 (omega arith) (sym (record_past r q (short_outputs out body) _ p) ∙ e)).0;
     }
 
+-- a test of the outputs' lengths stands for it
+pub deliver-passes : (r : Record) (q : List ℕ) (out body : ℕ) (short : Bool) → short ≡ short_outputs out body → 0 ≡ deliver_refusal r q short
+    → deliver_refusal r q (short_outputs out body) ≡ 0
+deliver-passes r q out body short e p = sym (p ∙ ap (deliver_refusal r q) e)
+
 -- no held frame is deliverable
-pub deliver-none : (r : Record) (q out body : List ℕ) (place : ℕ) → place ≡ place_of (searched r q) → place ≡ 0
+pub deliver-none : (r : Record) (q out body : List ℕ) → 0 ≡ place_of (searched r q)
     → after_deliver (record { answer = deliver_answer.Nothing r.held; node = r }) q out body
     ≡ accept_deliver r q out body (concluded r q) (delivery (concluded r q).answer)
-deliver-none r q out body place e z =
-    let a : searched r q ≡ absent = found_none (deliverable (node_at r q)) (held_messages r.held q) (sym e ∙ z) in
+deliver-none r q out body e =
+    let a : searched r q ≡ absent = found_none (deliverable (node_at r q)) (held_messages r.held q) (sym e) in
     let all : r.held ≡ length (held_messages r.held q) = sym (length_messages r.held q) in
     ap (λ (k : ℕ). after_deliver (record { answer = deliver_answer.Nothing k; node = r }) q out body) all
     ∙ ap (λ (f : Search). accept_deliver r q out body (conclude (node_at r q) f) (delivery (conclude (node_at r q) f).answer)) (sym a)
 
--- a frame is: where it stands, and what is left
-pub place-held : (r : Record) (q : List ℕ) (place : ℕ) → place ≡ place_of (searched r q) → (place ≡ 0 → ⊥) → place - 1 < r.held
-place-held r q place e h = (found-held (deliverable (node_at r q)) r.held q (place - 1) (omega arith)).0
+-- a frame is: the slot that it stands in, and what is left
+pub slot-held : (r : Record) (q : List ℕ) (j : ℕ) → j + 1 ≡ place_of (searched r q) → j < r.held
+slot-held r q j e = (found-held (deliverable (node_at r q)) r.held q j (omega arith)).0
 
 learn-same : (k : Kind) (me n cap : ℕ) (m v w : List ℕ) (l : List Message) (e : Matrix)
     → learn k (node_with me n cap m w []) e ≡ learn k (node_with me n cap m v l) e
 learn-same user me n cap m v w l e = refl
 learn-same extra me n cap m v w l e = refl
 
-module _ (r : Record) (q out body : List ℕ) (place : ℕ) (e : place ≡ place_of (searched r q)) (h : place ≡ 0 → ⊥) where
-  abbrev j : ℕ
-  j = place - 1
+-- what is left to do behind a frame that is taken in: the record is as it was but for the matrix, and its sender is counted
+abbrev pub counted : Record → (from : ℕ) → Record
+counted r from = record r { deliv = set r.deliv from (get_or r.deliv from 0 + 1); held = r.held - 1 }
 
+module _ (r : Record) (q out body : List ℕ) (j : ℕ) (e : j + 1 ≡ place_of (searched r q)) where
   abbrev g : Message
   g = decode (frame_at q j)
 
@@ -174,30 +161,19 @@ module _ (r : Record) (q out body : List ℕ) (place : ℕ) (e : place ≡ place
   abbrev others : List (List ℕ)
   others = without j (held_frames r.held q)
 
-  pub deliver-leaves : (s : List ℕ) (d : Delivered) (m₁ v₁ q₁ out₁ body₁ : List ℕ) → s ≡ frame_at q (place - 1)
-      → (let u : Trimmed = learn (decode s).kind (node_with r.me r.n r.cap r.m [] []) (decode s).entries in
-      (d ≡ record {
-        kind = kind_byte (decode s).kind;
-        from = (decode s).from;
-        number = number (decode s);
-        tried = place;
-        body = length (decode s).body;
-        bytes = length (frames_of u.extras);
-        extras = length u.extras;
-      })
-      × (m₁ ≡ flat u.matrix) × (out₁ ≡ put out 0 (frames_of u.extras)) × (body₁ ≡ put body 0 (decode s).body))
-      → v₁ ≡ list_from 0 12 (count_up d.from (vector r.deliv)) → q₁ ≡ laid (without (place - 1) (held_frames r.held q))
+  leaves : (d : Delivered) (m₁ v₁ q₁ out₁ body₁ : List ℕ) → d ≡ told_of r (frame_at q j) (j + 1)
+      → m₁ ≡ flat (learned r (frame_at q j)).matrix → out₁ ≡ put out 0 (frames_of (learned r (frame_at q j)).extras)
+      → body₁ ≡ put body 0 g.body
+      → v₁ ≡ list_from 0 12 (count_up d.from (vector r.deliv)) → q₁ ≡ laid others
       → after_deliver (record {
         answer = deliver_answer.Frame d;
         node = record { me = r.me; n = r.n; cap = r.cap; m = m₁; deliv = v₁; held = r.held - 1 };
       }) q₁ out₁ body₁
       ≡ accept_deliver r q out body (concluded r q) (delivery (concluded r q).answer)
-  deliver-leaves s d m₁ v₁ q₁ out₁ body₁ p w c x =
+  leaves d m₁ v₁ q₁ out₁ body₁ w₀ w₁ w₂ w₃ c x =
       let f = found-held (deliverable (node_at r q)) r.held q j (omega arith) in
-      let u : learn (decode s).kind (node_with r.me r.n r.cap r.m [] []) (decode s).entries ≡ t
-      = rw p (learn-same g.kind r.me r.n r.cap r.m r.deliv [] (held_messages r.held q) g.entries) in
-      let tried : place ≡ suc j = omega arith in
-      let text : (decode s).body ≡ g.body = rw p in
+      let u : learned r (frame_at q j) ≡ t = learn-same g.kind r.me r.n r.cap r.m r.deliv r.deliv (held_messages r.held q) g.entries in
+      let tried : j + 1 ≡ suc j = omega arith in
       let told : d ≡ record {
         kind = kind_byte g.kind;
         from = g.from;
@@ -207,18 +183,17 @@ module _ (r : Record) (q out body : List ℕ) (place : ℕ) (e : place ≡ place
         bytes = length (frames_of t.extras);
         extras = length t.extras;
       }
-      = w.0 ∙ (λ z. record {
-        kind = kind_byte (decode (p z)).kind;
-        from = (decode (p z)).from;
-        number = number (decode (p z));
+      = w₀ ∙ (λ z. record {
+        kind = kind_byte g.kind;
+        from = g.from;
+        number = number g;
         tried = tried z;
-        body = length (text z);
+        body = length g.body;
         bytes = length (frames_of (u z).extras);
         extras = length (u z).extras;
       }) in
-      let matrix : m₁ ≡ flat t.matrix = w.1 ∙ ap (λ (y : Trimmed). flat y.matrix) u in
-      let frames : out₁ ≡ put out 0 (frames_of t.extras) = w.2 ∙ ap (λ (y : Trimmed). put out 0 (frames_of y.extras)) u in
-      let written : body₁ ≡ put body 0 g.body = w.3 ∙ ap (put body 0) text in
+      let matrix : m₁ ≡ flat t.matrix = w₁ ∙ ap (λ (y : Trimmed). flat y.matrix) u in
+      let frames : out₁ ≡ put out 0 (frames_of t.extras) = w₂ ∙ ap (λ (y : Trimmed). put out 0 (frames_of y.extras)) u in
       let counts : v₁ ≡ list_from 0 12 (count_up g.from (vector r.deliv))
       = c ∙ ap (λ (y : Delivered). list_from 0 12 (count_up y.from (vector r.deliv))) told in
       let fewer : r.held - 1 ≡ length (map decode others) = omega (
@@ -227,7 +202,7 @@ module _ (r : Record) (q out body : List ℕ) (place : ℕ) (e : place ≡ place
         length_without j (held_frames r.held q) (omega (arith, f.0, length-held r.held q)),
         length-held r.held q,
       ) in
-      let last : place - 1 ≡ suc j - 1 = omega arith in
+      let last : j ≡ suc j - 1 = omega arith in
       let queue : q₁ ≡ laid (without (suc j - 1) (held_frames r.held q)) = x ∙ ap (λ (i : ℕ). laid (without i (held_frames r.held q))) last in
       let given : after_deliver (record {
         answer = deliver_answer.Frame d;
@@ -241,11 +216,51 @@ module _ (r : Record) (q out body : List ℕ) (place : ℕ) (e : place ≡ place
         };
         queue = queue z;
         out = frames z;
-        body = written z;
+        body = w₃ z;
       } in
       given ∙ ap (λ (y : Search). accept_deliver r q out body (conclude (node_at r q) y) (delivery (conclude (node_at r q) y).answer)) (sym f.1)
 
--- what the calls on the frame found ask
-module _ {r : Record} {q : List ℕ} {out body : ℕ} (k : Ready r q out body) (place : ℕ) (e : place ≡ place_of (searched r q)) (h : place ≡ 0 → ⊥) where
-  pub found_part : (end : ℕ) → end ≡ end_of q (place - 1) → HeldPart q (place - 1) end
-  found_part end w = held-part r.held q (place - 1) end k.queue (place-held r q place e h) w
+  -- the frame taken in, its slot emptied and its sender counted, as the protocol leaves them
+  pub deliver-leaves : (s : List ℕ) (d : Delivered) (r₁ : Record) (q₁ out₁ body₁ : List ℕ) → s ≡ frame_at q j → TakenIn r s (j + 1) out body d r₁ out₁ body₁
+      → length r.deliv ≡ 12 → d.from < 12 → q₁ ≡ laid (without j (held_frames r₁.held q))
+      → after_deliver (record { answer = deliver_answer.Frame d; node = counted r₁ d.from }) q₁ out₁ body₁
+      ≡ accept_deliver r q out body (concluded r q) (delivery (concluded r q).answer)
+  deliver-leaves s d r₁ q₁ out₁ body₁ p w l b x =
+      let P : Record → Type 0 = λ (y : Record). q₁ ≡ laid (without j (held_frames y.held q))
+      → after_deliver (record { answer = deliver_answer.Frame d; node = counted y d.from }) q₁ out₁ body₁
+      ≡ accept_deliver r q out body (concluded r q) (delivery (concluded r q).answer) in
+      let m₁ : List ℕ = flat (learned r s).matrix in
+      subst P (sym w.node)
+      (λ y. leaves d m₁ _ q₁ out₁ body₁ (rw p at w.told) (rw p) (rw p at w.frames) (rw p at w.text) (count-up r.deliv d.from l b) y) x
+
+-- a deliver that finds a frame passed its checks, and the frame is a part of the queue
+pub finds-ready : {r : Record} {q : List ℕ} {out body slot : ℕ} → Finds r q out body slot → Ready r q out body
+finds-ready f = deliver-ready _ _ _ _ f.passes
+
+pub finds-part : {r : Record} {q : List ℕ} {out body slot : ℕ} → Finds r q out body slot → (end : ℕ) → end ≡ end_of q slot → HeldPart q slot end
+finds-part {r} {q} {slot = slot} f end w = held-part r.held q slot end (finds-ready f).queue (slot-held r q slot f.found) w
+
+-- what is asked behind the frame taken in, to take it out of the queue and to count its sender
+pub record Countable (r₁ : Record) (q : List ℕ) (slot from : ℕ) : Type 0 where
+  pub size : length q ≡ queue_size
+  pub most : r₁.held ≤ 16
+  pub held : slot < r₁.held
+  pub layout : q ≡ laid (held_frames r₁.held q)
+  pub sender : from < 12
+  pub count : get_or r₁.deliv from 0 ≤ max_count
+
+pub countable : {r : Record} {q : List ℕ} {out body slot : ℕ} → Finds r q out body slot → (s : List ℕ) → CheckedFrame s
+    → {tried : ℕ} {o b o₁ b₁ : List ℕ} {d : Delivered} {r₁ : Record} → TakenIn r s tried o b d r₁ o₁ b₁ → Countable r₁ q slot d.from
+countable {r} {q} {slot = slot} f s c {d = d} w =
+    let P : Record → Type 0 = λ (y : Record). Countable y q slot d.from in
+    let k = finds-ready f in
+    let from : d.from < 12 = rw w.told (from-below s c) in
+    subst P (sym w.node)
+    record {
+      size = k.queue.size;
+      most = k.queue.most;
+      held = slot-held r q slot f.found;
+      layout = k.layout;
+      sender = from;
+      count = k.sound.vector_limit d.from from;
+    }

@@ -1,4 +1,5 @@
 -- Laws that the proofs of this crate and of the crates above cite.
+pub mod Ranges
 pub mod Shared
 pub mod Sending
 pub mod Offering

@@ -1,6 +1,6 @@
 -- Offer by its refusal. Assumes nothing.
 use Prim.Native.Nat.{◌+◌, ◌<◌, ◌≤◌, ℕ}
-use mathlib.Core.Bool.{Bool, ◌&&◌, and-false, cond, false, not, true}
+use mathlib.Core.Bool.{Bool, ◌&&◌, ◌||◌, cond, false, not, true}
 use mathlib.Core.List.{List, [], ◌++◌, ◌∷◌}
 use mathlib.Core.Path.{◌∙◌, ◌≡◌, refl, sym}
 use native.Mathlib.Decide.{ℕ_discrete}
@@ -28,7 +28,7 @@ use Rattle.protocol.specs.Offer.{claims_too_much, deliverable, delivered_before,
 use Rattle.wire.proofs.Tests.{is_false, neqb→ne, or-not, skipped}
 use Rattle.wire.specs.Limits.{max_frame}
 use Rattle.node.specs.declared.Node.{Node as Record}
-use Rattle.node.specs.declared.OfferAnswer.TheVariants as offer_answer
+use Rattle.node.specs.OfferAnswer as offer_answer
 
 -- the checks in rising order give the refusal, and none of them an accepted offer
 module _ (r : Record) (s q : List ℕ) (d : Node) (o : Outcome) (a : accepted o.answer ≡ true) where
@@ -93,6 +93,10 @@ pub take-hold : (r : Record) (s q : List ℕ) (short : Bool) → RecordPassed r 
 take-hold r s q short p e = record_past r q short _ p ∙ rw e
 
 -- where nothing else that is lent is too short it is the offer's
+pub passed-offer : (r : Record) (s q : List ℕ) → 0 ≡ record_refusal r q false (take_refusal r s q) → offer_refusal r s q ≡ 0
+unfolding offer_refusal
+passed-offer r s q e = sym e
+
 pub take-offer : (r : Record) (s q : List ℕ) → record_refusal r q false (take_refusal r s q) ≡ offer_refusal r s q
 unfolding offer_refusal
 take-offer r s q = refl
@@ -113,17 +117,11 @@ module _ (d : Node) (m : Message) where
   pub hold_15 : arrival_refusal d m ≡ 0 → held_already d m ≡ true → hold_refusal d m ≡ 15
   hold_15 e a = hold-left e ∙ rw a
 
-  pub hold-full : arrival_refusal d m ≡ 0 → held_already d m ≡ false → length d.held ≡ 16 → hold_refusal d m ≡ 16
-  hold-full e a l = hold-left e ∙ rw (a, eq-eqb (length d.held) 16 l)
+  pub hold_16 : arrival_refusal d m ≡ 0 → held_already d m ≡ false → no_room d m ≡ true → hold_refusal d m ≡ 16
+  hold_16 e a f = hold-left e ∙ rw (a, f)
 
-  pub hold-waits : arrival_refusal d m ≡ 0 → held_already d m ≡ false → length d.held ≡ 15 → deliverable d m ≡ false → hold_refusal d m ≡ 16
-  hold-waits e a l w = hold-left e ∙ rw (a, l, w)
-
-  pub hold-room : arrival_refusal d m ≡ 0 → held_already d m ≡ false → (length d.held ≡ 16 → ⊥) → (length d.held ≡ 15 → ⊥) → hold_refusal d m ≡ 0
-  hold-room e a l k = hold-left e ∙ rw (a, ne_eqb (length d.held) 16 l, ne_eqb (length d.held) 15 k)
-
-  pub hold-ready : arrival_refusal d m ≡ 0 → held_already d m ≡ false → (length d.held ≡ 16 → ⊥) → deliverable d m ≡ true → hold_refusal d m ≡ 0
-  hold-ready e a l w = hold-left e ∙ rw (a, ne_eqb (length d.held) 16 l, w) (rw (and-false (eqb (length d.held) 15)))
+  pub hold_0 : arrival_refusal d m ≡ 0 → held_already d m ≡ false → no_room d m ≡ false → hold_refusal d m ≡ 0
+  hold_0 e a f = hold-left e ∙ rw (a, f)
 
 -- as many messages are read from the queue as are held
 pub length_messages : (k : ℕ) (q : List ℕ) → length (held_messages k q) ≡ k
@@ -145,6 +143,11 @@ offer-leaves r s q q' ready held p w e =
           record { answer = offer_answer.Held (more z) (w z); node = record { me = r.me; n = r.n; cap = r.cap; m = r.m; deliv = r.deliv; held = more z } };
       queue = p z;
     }
+
+-- the room behind the held messages
+pub room_at : (r : Record) (q : List ℕ) (m : Message) (ready : Bool) → ready ≡ deliverable (node_at r q) m
+    → (eqb r.held 16 || eqb r.held 15 && not ready) ≡ no_room (node_at r q) m
+room_at r q m ready e = rw (e, length_messages r.held q)
 
 -- what a message that the protocol holds passed
 pub record HoldPassed (d : Node) (m : Message) : Type 0 where

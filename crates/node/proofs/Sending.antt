@@ -1,11 +1,11 @@
 -- Send by its refusal, and what a send that is not refused leaves. Assumes nothing.
 use Prim.Native.Nat.{◌*◌, ◌+◌, ◌-◌, ◌<◌, ◌≤◌, suc, ℕ}
-use mathlib.Core.Bool.{Bool, ◌||◌, cond, false, not, or-true, true}
+use mathlib.Core.Bool.{Bool, ◌||◌, cond, false, not, true}
 use mathlib.Core.List.{List, [], ◌∷◌}
 use mathlib.Core.Path.{◌∙◌, ◌≡◌, ap, refl, sym}
 use native.Mathlib.Decide.{ℕ_discrete}
 use native.Mathlib.Omega.{arith}
-use borrow.Author.Tests.{eq-eqb, le-ltb, lt-ltb, ne_eqb}
+use borrow.Author.Tests.{le-ltb, lt-ltb, ne_eqb}
 use lib.Dec.{eqb, ltb, ltb→lt, nltb→le}
 use lib.ListN.{length}
 use Rattle.frame.proofs.Frames.{length-frames, put-frames}
@@ -34,7 +34,7 @@ use Rattle.wire.proofs.Tests.{is_false, neqb→ne, not-not, or-not, skipped}
 use Rattle.wire.specs.Bytes.{put}
 use Rattle.wire.specs.Limits.{max_body, max_count}
 use Rattle.node.specs.declared.Node.{Node as Record}
-use Rattle.node.specs.declared.SendAnswer.TheVariants as send_answer
+use Rattle.node.specs.SendAnswer as send_answer
 
 -- the checks in rising order give the refusal, and none of them an accepted send
 module _ (r : Record) (out : List ℕ) (d : Node) (s : Outcome) (a : accepted s.answer ≡ true) where
@@ -127,34 +127,11 @@ module _ (r : Record) (to : ℕ) (body out : List ℕ) (lower : r.me < 12) (uppe
         out = bytes z;
       }
 
--- the checks of a send one after the other
-module _ (r : Record) (to class : ℕ) (body : List ℕ) (out : ℕ) where
-  pub send_2 : broken_record r ≡ true → send_refusal r to class body out ≡ 2
-  unfolding send_refusal
-  send_2 a = rw a
-
-  pub send_3 : broken_record r ≡ false → out < out_size → send_refusal r to class body out ≡ 3
-  unfolding send_refusal
-  send_3 a b = rw (a, lt-ltb out out_size b)
-
-  pub send_5 : broken_record r ≡ false → out_size ≤ out → at_limit (node_of r []) ≡ true → send_refusal r to class body out ≡ 5
-  unfolding send_refusal
-  send_5 a b c = rw (a, le-ltb out out_size b, c)
-
-  pub send_6 : broken_record r ≡ false → out_size ≤ out → at_limit (node_of r []) ≡ false → bad_destination (node_of r []) to ≡ true → send_refusal r to class body out ≡ 6
-  unfolding send_refusal
-  send_6 a b c d = rw (a, le-ltb out out_size b, c, d)
-
-  pub send_7 : broken_record r ≡ false → out_size ≤ out → at_limit (node_of r []) ≡ false → bad_destination (node_of r []) to ≡ false
-      → max_body < length body → send_refusal r to class body out ≡ 7
-  unfolding send_refusal
-  send_7 a b c d e = rw (a, le-ltb out out_size b, c, d, lt-ltb max_body (length body) e)
-
-  -- the last one
-  pub send-last : broken_record r ≡ false → out_size ≤ out → at_limit (node_of r []) ≡ false → bad_destination (node_of r []) to ≡ false
-      → length body ≤ max_body → send_refusal r to class body out ≡ cond (lacks_right ours class body) 21 0
-  unfolding send_refusal
-  send-last a b c d e = rw (a, le-ltb out out_size b, c, d, le-ltb max_body (length body) e)
+-- where the other checks are not met the refusal is that of the right
+pub send-last : (r : Record) (to class : ℕ) (body : List ℕ) (out : ℕ) → broken_record r ≡ false → out_size ≤ out → at_limit (node_of r []) ≡ false
+    → bad_destination (node_of r []) to ≡ false → length body ≤ max_body → send_refusal r to class body out ≡ cond (lacks_right ours class body) 21 0
+unfolding send_refusal
+send-last r to class body out a b c d e = rw (a, le-ltb out out_size b, c, d, le-ltb max_body (length body) e)
 
 -- what a send that passed its checks knows
 pub record Sendable (r : Record) (to class : ℕ) (body : List ℕ) (out : ℕ) : Type 0 where
@@ -187,13 +164,7 @@ sendable r to class body out e =
       below = limit-row (node_of r []) s.0 sound.limit;
     }
 
--- a destination that is me, or not below n, or neither
-pub to-me : (me n to : ℕ) → to ≡ me → (eqb to me || not (ltb to n)) ≡ true
-to-me me n to e = rw (eq-eqb to me e)
-
-pub to_far : (me n to : ℕ) → n ≤ to → (eqb to me || not (ltb to n)) ≡ true
-to_far me n to h = rw (le-ltb to n h) (or-true (eqb to me))
-
+-- a destination that is not me, and below n
 pub to-other : (me n to : ℕ) → (to ≡ me → ⊥) → to < n → (eqb to me || not (ltb to n)) ≡ false
 to-other me n to e h = rw (ne_eqb to me e, lt-ltb to n h)
 
@@ -203,6 +174,13 @@ pub cleared-limit : (r : Record) (to : ℕ) (m₁ : List ℕ) → r.me < 12 → 
 cleared-limit r to m₁ h k l b e x y =
     rw (ap entry e ∙ entry-back (clear r.me to (entry r.m)) (inside-clear r.me to (entry r.m) h k (inside-entry r.m)))
     (clear-limit r.me to max_count (entry r.m) l b x y)
+
+-- both nodes are below 12
+pub sender-small : {r : Record} {to class : ℕ} {body : List ℕ} {out : ℕ} → Sendable r to class body out → r.me < 12
+sender-small k = omega (arith, k.sound.range.below, k.sound.range.at_most12)
+
+pub receiver-small : {r : Record} {to class : ℕ} {body : List ℕ} {out : ℕ} → Sendable r to class body out → to < 12
+receiver-small k = omega (arith, k.destination, k.sound.range.at_most12)
 
 -- a sound record's matrix has at most 121 entries
 pub frame-room : {r : Record} {to class : ℕ} {body : List ℕ} {out : ℕ} → Sendable r to class body out → count (entry r.m) ≤ 121

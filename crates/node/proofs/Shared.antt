@@ -2,11 +2,13 @@
 use Prim.Native.Nat.{ℕ, ◌<◌}
 use mathlib.Core.Bool.{Bool, ◌||◌, cond, false, not, true}
 use mathlib.Core.List.{List, []}
-use mathlib.Core.Path.{◌∙◌, ◌≡◌, refl}
+use mathlib.Core.Path.{◌∙◌, ◌≡◌, ap, refl}
 use native.Mathlib.Omega.{arith}
-use borrow.Author.Tests.{eq-eqb, ne_eqb}
+use borrow.Author.Tests.{eq-eqb}
 use lib.Dec.{eqb, eqb→eq}
 use lib.ListN.{length}
+use Rattle.std.proofs.Common.{Err, IsErrAnd, Ok, Result}
+use Rattle.refusal.specs.declared.Refusal.{Refusal}
 use Rattle.arrival.proofs.Arrived.{Arrives, arrives}
 use Rattle.frame.proofs.Carried.{Carried, carried}
 use Rattle.frame.specs.Frame.{decode}
@@ -21,6 +23,11 @@ use Rattle.node.specs.Record.{broken_record, node_of}
 use Rattle.rules.proofs.Facts.{Unbroken, unbroken}
 use Rattle.wire.proofs.Tests.{is_false, not-not, or-not, skipped}
 use Rattle.node.specs.declared.Node.{Node as Record}
+
+-- a refusal that `?` passes on is the same one
+pub passed_on : {A : Type 0} (a : Result A Refusal) (why : Refusal) → IsErrAnd a (λ w. w ≡ why) → a ≡ Err why
+passed_on (Ok x) why h = absurd h
+passed_on (Err w) why h = ap Err h
 
 -- the first of three checks with these numbers that is met, and x where none is
 abbrev pub first_of : (i j k : ℕ) (a b c : Bool) → ℕ → ℕ
@@ -39,27 +46,6 @@ first-none i j k x false false true p q r e = absurd (r e)
 first-none i j k x false false false p q r e = refl
 
 module _ (r : Record) (q : List ℕ) (short : Bool) where
-  -- the checks one after the other
-  pub record_2 : broken_record r ≡ true → record_refusal r q short 0 ≡ 2
-  unfolding record_refusal
-  record_2 a = rw a
-
-  pub record_short : broken_record r ≡ false → short ≡ true → record_refusal r q short 0 ≡ 3
-  unfolding record_refusal
-  record_short a b = rw (a, b)
-
-  pub record_3 : broken_record r ≡ false → short ≡ false → (length q ≡ queue_size → ⊥) → record_refusal r q short 0 ≡ 3
-  unfolding record_refusal
-  record_3 a b c = rw (a, b, ne_eqb (length q) queue_size c)
-
-  pub record_4 : broken_record r ≡ false → short ≡ false → length q ≡ queue_size → wrong_queue (node_of r []) r.held q ≡ true → record_refusal r q short 0 ≡ 4
-  unfolding record_refusal
-  record_4 a b c d = rw (a, b, eq-eqb (length q) queue_size c, d)
-
-  pub record_0 : broken_record r ≡ false → short ≡ false → length q ≡ queue_size → wrong_queue (node_of r []) r.held q ≡ false → record_refusal r q short 0 ≡ 0
-  unfolding record_refusal
-  record_0 a b c d = rw (a, b, eq-eqb (length q) queue_size c, d)
-
   -- what passing them tells
   pub record RecordPassed : Type 0 where
     pub sound : Unbroken r.me r.n r.cap (entry r.m) (vector r.deliv) r.held

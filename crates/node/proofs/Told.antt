@@ -37,13 +37,13 @@ use Rattle.node.specs.Calls.{accept_deliver, accept_send, deliver_call, offer_ca
 use Rattle.node.specs.CallRefusals.{send_refusal}
 use Rattle.node.specs.Record.{node_at, node_of}
 use Rattle.node.specs.declared.Node.{Node as Record}
-use Rattle.node.specs.declared.Delivered.{Delivered}
-use Rattle.node.specs.declared.SendAnswer.{SendAnswer}
-use Rattle.node.specs.declared.OfferAnswer.{OfferAnswer}
-use Rattle.node.specs.declared.DeliverAnswer.{DeliverAnswer}
-use Rattle.node.specs.declared.SendAnswer.TheVariants as send_answer
-use Rattle.node.specs.declared.OfferAnswer.TheVariants as offer_answer
-use Rattle.node.specs.declared.DeliverAnswer.TheVariants as deliver_answer
+use Rattle.node.specs.Delivered.{Delivered}
+use Rattle.node.specs.SendAnswer.{SendAnswer}
+use Rattle.node.specs.OfferAnswer.{OfferAnswer}
+use Rattle.node.specs.DeliverAnswer.{DeliverAnswer}
+use Rattle.node.specs.SendAnswer as send_answer
+use Rattle.node.specs.OfferAnswer as offer_answer
+use Rattle.node.specs.DeliverAnswer as deliver_answer
 
 -- the frames of these messages, so many bytes, were written from the front of `out` on, which is now o
 pub record Wrote (out o : List ℕ) (bytes : ℕ) (l : List Message) : Type 0 where

@@ -1,16 +1,34 @@
--- The answers: document 01's number of each (0 where the call is not refused), and what the caller holds after a call.
+-- The answers, each with the record: document 01's number of each (0 where the call is not refused), and what the caller holds after a call.
 use Rattle.std.specs.Prelude.{ℕ, List}
-use Rattle.node.specs.declared.Sent.{Sent}
-use Rattle.node.specs.declared.Offered.{Offered}
-use Rattle.node.specs.declared.Delivery.{Delivery}
-use Rattle.node.specs.declared.SetUpAnswer.{SetUpAnswer}
-use Rattle.node.specs.declared.SendAnswer.{SendAnswer}
-use Rattle.node.specs.declared.OfferAnswer.{OfferAnswer}
-use Rattle.node.specs.declared.DeliverAnswer.{DeliverAnswer}
-use Rattle.node.specs.declared.SetUpAnswer.TheVariants as set_up
-use Rattle.node.specs.declared.SendAnswer.TheVariants as send
-use Rattle.node.specs.declared.OfferAnswer.TheVariants as offer
-use Rattle.node.specs.declared.DeliverAnswer.TheVariants as deliver
+use Rattle.node.specs.declared.Node.{Node as Record}
+use Rattle.node.specs.SetUpAnswer.{SetUpAnswer}
+use Rattle.node.specs.SendAnswer.{SendAnswer}
+use Rattle.node.specs.OfferAnswer.{OfferAnswer}
+use Rattle.node.specs.DeliverAnswer.{DeliverAnswer}
+use Rattle.node.specs.SetUpAnswer as set_up
+use Rattle.node.specs.SendAnswer as send
+use Rattle.node.specs.OfferAnswer as offer
+use Rattle.node.specs.DeliverAnswer as deliver
+
+-- set-up's answer and the record: a fresh one, or on a refusal the all-zero one
+pub record SetUp : Type 0 where
+  pub answer : SetUpAnswer
+  pub node : Record
+
+-- send's answer and the record
+pub record Sent : Type 0 where
+  pub answer : SendAnswer
+  pub node : Record
+
+-- offer's
+pub record Offered : Type 0 where
+  pub answer : OfferAnswer
+  pub node : Record
+
+-- deliver's
+pub record Delivery : Type 0 where
+  pub answer : DeliverAnswer
+  pub node : Record
 
 -- the refusal's number of set-up's answer
 abbrev pub set_up_number : SetUpAnswer → ℕ

@@ -1,5 +1,5 @@
 -- The refusals of each call as numbers: the first check that is met, in rising order, and 0 where none is.
-use Rattle.std.specs.Prelude.{ℕ, Bool, cond, false, not, ◌||◌, List, [], ◌≡◌, eqb, ltb, length}
+use Rattle.std.specs.Prelude.{ℕ, ◌+◌, Bool, cond, false, not, ◌||◌, List, [], ◌≡◌, eqb, ltb, length}
 use Rattle.wire.specs.Limits.{max_body}
 use Rattle.matrix.specs.Message.{Message}
 use Rattle.frame.specs.Frame.{decode}
@@ -23,13 +23,10 @@ send_refusal r to class body out =
     cond (broken_record r) 2 (cond (ltb out out_size) 3
     (cond (at_limit (node_of r [])) 5 (cond (bad_destination (node_of r []) to) 6 (cond (long_body body) 7 (cond (lacks_right ours class body) 21 0)))))
 
--- a send at a node with this me, n, cap and matrix, of this body by some class, meets no check
-pub record SendPasses (me n cap : ℕ) (m : List ℕ) (to : ℕ) (body : List ℕ) (out : ℕ) : Type 0 where
-  pub deliv : List ℕ
-  pub held : ℕ
+-- a send of this body by some class meets no check
+pub record SendPasses (r : Record) (to : ℕ) (body : List ℕ) (out : ℕ) : Type 0 where
   pub class : ℕ
-  pub cells : length m ≡ 144
-  pub passes : send_refusal (record { me = me; n = n; cap = cap; m = m; deliv = deliv; held = held }) to class body out ≡ 0
+  pub passes : send_refusal r to class body out ≡ 0
 
 -- the protocol's refusals of an offer: 12 to 16
 unfoldable pub hold_refusal : Node → Message → ℕ
@@ -56,14 +53,7 @@ short_outputs out body = ltb out out_size || ltb body max_body
 unfoldable pub deliver_refusal : Record → List ℕ → Bool → ℕ
 deliver_refusal r q short = record_refusal r q short (cond (at_limit (node_at r q)) 5 0)
 
--- a deliver at this record, with this queue and outputs of these lengths, meets no check and finds a deliverable frame at this place, counted from 1
-pub record Finds (r : Record) (q : List ℕ) (out body place : ℕ) : Type 0 where
+-- a deliver at this record, with this queue and outputs of these lengths, meets no check and finds a deliverable frame in this slot, counted from 0
+pub record Finds (r : Record) (q : List ℕ) (out body slot : ℕ) : Type 0 where
   pub passes : deliver_refusal r q (short_outputs out body) ≡ 0
-  pub found : place ≡ place_of (search (deliverable (node_at r q)) (held_messages r.held q))
-  pub some : place ≡ 0 → ⊥
-
--- the same at a node with this me, n, cap, matrix and number of held frames
-pub record FindsAt (me n cap : ℕ) (m : List ℕ) (held : ℕ) (q : List ℕ) (out body place : ℕ) : Type 0 where
-  pub deliv : List ℕ
-  pub cells : length m ≡ 144
-  pub finds : Finds (record { me = me; n = n; cap = cap; m = m; deliv = deliv; held = held }) q out body place
+  pub found : slot + 1 ≡ place_of (search (deliverable (node_at r q)) (held_messages r.held q))

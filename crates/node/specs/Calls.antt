@@ -19,9 +19,9 @@ use Rattle.holdback.specs.WrongQueue.{wrong_queue}
 use Rattle.rights.specs.Ours.{ours}
 use Rattle.rights.specs.Rights.{lacks_right}
 use Rattle.node.specs.declared.Node.{Node as Record}
-use Rattle.node.specs.declared.SendAnswer.TheVariants as send_answer
-use Rattle.node.specs.declared.OfferAnswer.TheVariants as offer_answer
-use Rattle.node.specs.declared.DeliverAnswer.TheVariants as deliver_answer
+use Rattle.node.specs.SendAnswer as send_answer
+use Rattle.node.specs.OfferAnswer as offer_answer
+use Rattle.node.specs.DeliverAnswer as deliver_answer
 use Rattle.node.specs.Sizes.{out_size}
 use Rattle.node.specs.Record.{broken_record, node_of}
 use Rattle.node.specs.Answers.{AfterSend, AfterOffer, AfterDeliver, after_send, after_offer, after_deliver}

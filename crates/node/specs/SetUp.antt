@@ -1,8 +1,8 @@
 -- Set-up: a fresh record for the me, n and cap given to it, or refusal 1 with the all-zero record.
 use Rattle.std.specs.Prelude.{ℕ, cond, replicate}
 use Rattle.node.specs.declared.Node.{Node as Record}
-use Rattle.node.specs.declared.SetUp.{SetUp}
-use Rattle.node.specs.declared.SetUpAnswer.TheVariants.{Refused, Ready}
+use Rattle.node.specs.Answers.{SetUp}
+use Rattle.node.specs.SetUpAnswer.{Refused, Ready}
 use Rattle.rules.specs.Rules.{in_range}
 
 -- all zero but for me, n and cap

@@ -1,15 +1,18 @@
 //! The causal node: its record, set-up, send, offer and deliver. The record goes into each call by value and comes back with its answer;
-//! `send`, `offer` and `deliver` have what a call does over lent arrays and numbers, for callers that keep the record in another form.
+//! a call's checks and what it does behind them are methods of a lent record, for callers that keep the record in another form.
 #![tactic(auto)]
 
 mod checks;
-pub mod deliver;
-pub mod offer;
-pub mod send;
+mod deliver;
+mod offer;
+mod send;
 mod set_up;
 
+use frame::header::Kind;
+use refusal::Refusal;
+
 /// The node's record: me, n and cap; the matrix, row by row; the vector of deliveries; and the number of held frames.
-#[derive(Clone, Copy)]
+#[derive(Clone, Copy, PartialEq, Eq)]
 pub struct Node {
     pub me: u8,
     pub n: u8,
@@ -42,53 +45,46 @@ impl Node {
     pub const OUT_SIZE: usize = 2048;
 }
 
-/// What set-up answers: a refusal's number, or that the record is ready.
-#[derive(Clone, Copy)]
-pub enum SetUpAnswer {
-    Refused(u8),
-    Ready,
-}
-
 /// Set-up's answer and the record: a fresh one, or on a refusal the all-zero one.
 #[derive(Clone, Copy)]
 pub struct SetUp {
-    pub answer: SetUpAnswer,
+    pub answer: Result<(), Refusal>,
     pub node: Node,
 }
 
-/// What send answers: a refusal's number, or how many bytes and extra frames it issued.
+/// What a send issued: how many bytes, and how many extra frames.
 #[derive(Clone, Copy)]
-pub enum SendAnswer {
-    Refused(u8),
-    Sent { bytes: usize, extras: usize },
+pub struct Issue {
+    pub bytes: usize,
+    pub extras: usize,
 }
 
 /// Send's answer and the record.
 #[derive(Clone, Copy)]
 pub struct Sent {
-    pub answer: SendAnswer,
+    pub answer: Result<Issue, Refusal>,
     pub node: Node,
 }
 
-/// What offer answers: a refusal's number, or how many frames are held now and whether this one was deliverable at that moment.
+/// What an offer came to: how many frames are held now, and whether this one was deliverable at that moment.
 #[derive(Clone, Copy)]
-pub enum OfferAnswer {
-    Refused(u8),
-    Held { count: usize, ready: bool },
+pub struct Held {
+    pub count: usize,
+    pub ready: bool,
 }
 
 /// Offer's answer and the record.
 #[derive(Clone, Copy)]
 pub struct Offered {
-    pub answer: OfferAnswer,
+    pub answer: Result<Held, Refusal>,
     pub node: Node,
 }
 
-/// A delivery: the frame's kind (1 user, 2 extra), from and number;
+/// A delivery: the frame's kind, from and number;
 /// how many held frames were tried (document 01: looked); the body's bytes; and the bytes and extra frames issued.
 #[derive(Clone, Copy)]
 pub struct Delivered {
-    pub kind: u8,
+    pub kind: Kind,
     pub from: u8,
     pub number: u32,
     pub tried: usize,
@@ -97,10 +93,9 @@ pub struct Delivered {
     pub extras: usize,
 }
 
-/// What deliver answers: a refusal's number, that none of the tried held frames is deliverable, or a delivery.
+/// What a deliver found: that none of the tried held frames is deliverable, or the one that it delivered.
 #[derive(Clone, Copy)]
-pub enum DeliverAnswer {
-    Refused(u8),
+pub enum Found {
     Nothing(usize),
     Frame(Delivered),
 }
@@ -108,6 +103,6 @@ pub enum DeliverAnswer {
 /// Deliver's answer and the record.
 #[derive(Clone, Copy)]
 pub struct Delivery {
-    pub answer: DeliverAnswer,
+    pub answer: Result<Found, Refusal>,
     pub node: Node,
 }

@@ -1,116 +1,102 @@
-//! Send: its checks and what it does over lent arrays, and the call on a record.
-ghost use Rattle.std.specs.Prelude.{◌≡◌, List, [], ℕ, length};
+//! Send: its checks and what it does on a lent record, and the call.
+ghost use Rattle.std.specs.Prelude.{◌≡◌, [], length};
+ghost use Rattle.refusal.specs.Numbers.{met};
 ghost use Rattle.protocol.specs.Send.{sending};
 ghost use Rattle.node.specs.Answers.{after_send};
-ghost use Rattle.node.specs.declared.SendAnswer.TheVariants.{Sent as sent};
+ghost use Rattle.node.specs.SendAnswer.{Sent as sent};
 ghost use Rattle.node.specs.Calls.{send_call, accept_send};
 ghost use Rattle.node.specs.CallRefusals.{send_refusal, SendPasses};
 ghost use Rattle.node.specs.Record.{node_of};
+ghost use Rattle.node.specs.Told.{send_told, told_send};
 
-use super::{Node, SendAnswer, Sent};
+use super::{Issue, Node, Sent};
 use frame::write::Address;
-use trim::Issued;
-
-/// The refusal of a send: the first check that is met, and 0 where none is.
-pub fn refusal<'a>(
-    me: u8,
-    n: u8,
-    cap: u8,
-    m: &'a [u32; 144],
-    deliv: &'a [u32; 12],
-    held: u8,
-    to: usize,
-    class: usize,
-    body: &'a [u8],
-    out: usize,
-) -> u8
-    requires { (length m.now ≡ 144) × (length deliv.now ≡ 12) }
-    ensures { result ≡ send_refusal (record { me = me; n = n; cap = cap; m = m.now; deliv = deliv.now; held = held }) to class body.now out }
-{
-    if rules::broken(me, n, cap, m, deliv, held) {
-        return 2;
-    }
-    if out < Node::OUT_SIZE {
-        return 3;
-    }
-    if rules::at_limit(me as usize, m, deliv) {
-        return 5;
-    }
-    if to == me as usize {
-        return 6;
-    }
-    if n as usize <= to {
-        return 6;
-    }
-    if wire::MAX_BODY < body.len() {
-        return 7;
-    }
-    if rights::lacks_right(&rights::OURS, class, body) {
-        return 21;
-    }
-    0
-}
-
-/// What a send does that meets no check: writes the user frame and then trim's extra frames into `out`; the matrix is the trimmed one.
-pub fn issue(
-    me: u8,
-    n: u8,
-    cap: u8,
-    m: &mut [u32; 144],
-    to: usize,
-    body: &[u8],
-    out: &mut [u8],
-) -> Issued
-    requires { SendPasses me n cap m.old to body.now (length out.old) }
-    ensures { (v : List ℕ) (held : ℕ)
-        → after_send (record {
-          answer = sent result.at result.extras;
-          node = record { me = me; n = n; cap = cap; m = m.new; deliv = v; held = held };
-        }) out.new
-        ≡ accept_send (record { me = me; n = n; cap = cap; m = m.old; deliv = v; held = held }) out.old
-        (sending (node_of (record { me = me; n = n; cap = cap; m = m.old; deliv = v; held = held }) []) to body.now) }
-{
-    let a = Address {
-        from: me,
-        to: to as u8,
-        n,
-        cap,
-    };
-    let at = frame::write::user(out, 0, a, m, body);
-    matrix::clear_column(m, me as usize, to);
-    trim::trim(m, out, at, me, n, cap)
-}
+use refusal::Refusal;
 
 impl Node {
-    /// Sends a body to node `to`, as a node of this class: writes the user frame and then trim's extra frames into `out`, and gives the new record.
-    pub fn send(mut self, to: usize, class: usize, body: &[u8], out: &mut [u8]) -> Sent
-        ensures { after_send result out.new ≡ send_call self to class body.now out.old }
+    // Kept: a class is any number, since C hands one; above 3 it is refused with 21.
+    /// The checks of a send, for a frame output of this length.
+    #[tactic(auto, using(std::proofs::lemmas::Grind::common_steps, crate::proofs::Ranges::record_small), unfolding(crate::specs::CallRefusals::send_refusal, crate::specs::Record::broken_record, rights::specs::Ours::ours))]
+    pub fn check_send(
+        &self,
+        to: usize,
+        class: usize,
+        body: &[u8],
+        out: usize,
+    ) -> Result<(), Refusal>
+        ensures { met result ≡ send_refusal self.now to class body.now out }
     {
-        let me = self.me;
-        let n = self.n;
-        let cap = self.cap;
-        let room = out.len();
-        let why = refusal(
+        let Node {
             me,
             n,
             cap,
-            &self.m,
-            &self.deliv,
-            self.held,
-            to,
-            class,
-            body,
-            room,
-        );
-        if why != 0 {
-            let answer = SendAnswer::Refused(why);
-            return Sent { answer, node: self };
+            held,
+            ..
+        } = *self;
+        if rules::broken(me, n, cap, &self.m, &self.deliv, held) {
+            return Err(Refusal::BrokenRecord);
         }
-        let t = issue(me, n, cap, &mut self.m, to, body, out);
-        let answer = SendAnswer::Sent {
+        if out < Node::OUT_SIZE {
+            return Err(Refusal::TooShort);
+        }
+        if rules::at_limit(me as usize, &self.m, &self.deliv) {
+            return Err(Refusal::CountedOut);
+        }
+        if to == me as usize || n as usize <= to {
+            return Err(Refusal::Destination);
+        }
+        if wire::MAX_BODY < body.len() {
+            return Err(Refusal::LongBody);
+        }
+        if rights::lacks_right(&rights::OURS, class, body) {
+            return Err(Refusal::NoRight);
+        }
+        Ok(())
+    }
+
+    /// What a send does that meets no check: writes the user frame and then trim's extra frames into `out`, and trims the matrix.
+    pub fn issue(&mut self, to: usize, body: &[u8], out: &mut [u8]) -> Issue
+        requires { SendPasses self.old to body.now (length out.old) }
+        ensures { after_send (record { answer = sent result.bytes result.extras; node = self.new }) out.new
+            ≡ accept_send self.old out.old (sending (node_of self.old []) to body.now) }
+    {
+        let Node { me, n, cap, .. } = *self;
+        let a = Address {
+            from: me,
+            to: to as u8,
+            n,
+            cap,
+        };
+        let at = frame::write::user(out, 0, a, &self.m, body);
+        matrix::clear_column(&mut self.m, me as usize, to);
+        let t = trim::trim(&mut self.m, out, at, me, n, cap);
+        Issue {
             bytes: t.at,
             extras: t.extras as usize,
-        };
+        }
+    }
+
+    // A send on a lent record.
+    fn send_in_place(
+        &mut self,
+        to: usize,
+        class: usize,
+        body: &[u8],
+        out: &mut [u8],
+    ) -> Result<Issue, Refusal>
+        ensures { after_send (record { answer = send_told result; node = self.new }) out.new
+            ≡ send_call self.old to class body.now out.old }
+    {
+        self.check_send(to, class, body, out.len())?;
+        Ok(self.issue(to, body, out))
+    }
+
+    // Kept: a class is any number, as in `check_send`.
+    /// Sends a body to node `to`, as a node of this class: writes the user frame and then trim's extra frames into `out`, and gives the new record.
+    pub fn send(mut self, to: usize, class: usize, body: &[u8], out: &mut [u8]) -> Sent
+        ensures { after_send (told_send result) out.new ≡ send_call self to class body.now out.old }
+    {
+        let answer = self.send_in_place(to, class, body, out);
         Sent { answer, node: self }
     }
 }

@@ -1,4 +1,5 @@
 -- Demand 1, from each call by its refusal. Assumes nothing.
+use Rattle.std.specs.Prelude.{Err, None, Option as Asks, Some}
 use Prim.Native.Nat.{ℕ, ◌+◌, ◌<◌}
 use mathlib.Core.Bool.{Bool, true, false, cond, not, ◌&&◌}
 use mathlib.Core.List.{List, []}
@@ -17,7 +18,7 @@ use Rattle.holdback.specs.Slots.{queue_size}
 use Rattle.node.proofs.Delivering.{concluded, deliver-by-refusal}
 use Rattle.node.proofs.Offering.{offer-by-refusal}
 use Rattle.node.proofs.Sending.{send-by-refusal}
-use Rattle.node.specs.Answers.{AfterDeliver, AfterOffer, AfterSend, deliver_number, offer_number, send_number, set_up_number}
+use Rattle.node.specs.Answers.{AfterDeliver, AfterOffer, AfterSend, deliver_number, offer_number, send_number, set_up_number, SetUp}
 use Rattle.node.specs.Calls.{accept_deliver, accept_offer, accept_send, deliver_call, offer_call, refuse_deliver, refuse_offer, refuse_send, send_call}
 use Rattle.node.specs.CallRefusals.{deliver_refusal, hold_refusal, offer_refusal, record_refusal, send_refusal}
 use Rattle.node.specs.Record.{node_at, broken_record, node_of}
@@ -35,21 +36,19 @@ use Rattle.trail.specs.Walk.{bad_end, last_frame, last_length, last_start, walk,
 use Rattle.trail.specs.Windows.{largest}
 use Rattle.trail.specs.Write.{AfterWrite, after_write, no_room_for, write_call, write_number}
 use Rattle.trail.specs.declared.walk.Cursor.{Cursor}
-use Rattle.trail.specs.declared.walk.StepAnswer.{StepAnswer}
-use Rattle.trail.specs.declared.walk.StepAnswer.TheVariants as step_answer
-use Rattle.trail.specs.declared.walk.WalkAnswer.TheVariants as walk_answer
-use Rattle.trail.specs.declared.write.WriteAnswer.TheVariants as write_answer
+use Rattle.trail.specs.StepAnswer.{StepAnswer}
+use Rattle.trail.specs.StepAnswer as step_answer
+use Rattle.trail.specs.WalkAnswer as walk_answer
+use Rattle.trail.specs.WriteAnswer as write_answer
 use Rattle.wire.proofs.Tests.{not-both}
 use Rattle.wire.specs.Bytes.{put}
 use Rattle.text.proofs.Print.{run_short}
-use Rattle.text.specs.Output.{after_run}
+use Rattle.text.specs.Output.{after_run, too_short}
 use Rattle.text.specs.Print.{refusal_row}
-use Rattle.text.specs.declared.Ran.TheVariants.{TooShort}
 use Rattle.request.proofs.Laws.{in_range_lem, other-refused}
 use Rattle.request.specs.Refusal18.{out_of_range, refused18, wrong}
 use Rattle.request.specs.Request.{request}
-use Rattle.request.specs.declared.Request.{Request}
-use Rattle.request.specs.declared.Request.TheVariants as asks
+use Rattle.request.specs.declared.Load.{Load}
 use Rattle.sweep.proofs.Outputs.{answered-refused, answered-table, not-refusal}
 use Rattle.sweep.specs.Load as load
 use Rattle.sweep.specs.Run.{output_size, run_call}
@@ -59,11 +58,10 @@ use Rattle.refusals.specs.CallChecks.{deliver_checks, load_checks, offer_checks,
 use Rattle.refusals.specs.Checks.{Answers, First, first_met}
 use Rattle.refusals.specs.Demand1.{DeliverSays, Demand1, LoadSays, OfferSays, SendSays, SetUpSays, StepSays, WalkSays, WriteSays}
 use Rattle.node.specs.declared.Node.{Node as Record}
-use Rattle.node.specs.declared.SetUp.{SetUp}
-use Rattle.node.specs.declared.SetUpAnswer.TheVariants as set_up_answer
-use Rattle.node.specs.declared.SendAnswer.TheVariants as send_answer
-use Rattle.node.specs.declared.OfferAnswer.TheVariants as offer_answer
-use Rattle.node.specs.declared.DeliverAnswer.TheVariants as deliver_answer
+use Rattle.node.specs.SetUpAnswer as set_up_answer
+use Rattle.node.specs.SendAnswer as send_answer
+use Rattle.node.specs.OfferAnswer as offer_answer
+use Rattle.node.specs.DeliverAnswer as deliver_answer
 
 -- a part of a call that is refused by k, or accepted where k is 0
 part : {A C : Type 0} (f : C → A) (c : C) (k : ℕ) (x : C) (g : ℕ → C) → c ≡ cond (eqb k 0) x (g k) → f c ≡ cond (eqb k 0) (f x) (f (g k))
@@ -234,27 +232,31 @@ deliver_says r q out body =
 tabled-not : (n seed draws k : ℕ) → ¬ (load.tabled n seed draws ≡ load.refused k)
 tabled-not n seed draws k e = let z : ◌≡◌ {A = ℕ} 0 1 = cc in absurd (omega arith)
 
+-- what an input may ask for
+abbrev Asked : Type 0
+Asked = Asks Load
+
 -- the table that a request is answered with where it is not refused
-abbrev table_of : Request → load.Answer
-table_of (asks.Load n seed draws) = load.tabled n seed draws
-table_of asks.Other = load.tabled 0 0 0
+abbrev table_of : Asked → load.Answer
+table_of (Some r) = load.tabled r.n r.seed r.draws
+table_of None = load.tabled 0 0 0
 
-table-not : (r : Request) (k : ℕ) → ¬ (table_of r ≡ load.refused k)
-table-not (asks.Load n seed draws) k = tabled-not n seed draws k
-table-not asks.Other k = tabled-not 0 0 0 k
+table-not : (r : Asked) (k : ℕ) → ¬ (table_of r ≡ load.refused k)
+table-not (Some r) k = tabled-not r.n r.seed r.draws k
+table-not None k = tabled-not 0 0 0 k
 
-table-number : (r : Request) → load.load_number (table_of r) ≡ 0
-table-number (asks.Load n seed draws) = refl
-table-number asks.Other = refl
+table-number : (r : Asked) → load.load_number (table_of r) ≡ 0
+table-number (Some r) = refl
+table-number None = refl
 
 answer-by : (b : Bool) (x : load.Answer) → cond b (load.refused 18) x ≡ cond (eqb (cond b 18 0) 0) x (load.refused (cond b 18 0))
 answer-by true x = refl
 answer-by false x = refl
 
-load-by : (r : Request) → load.answered r ≡ cond (eqb (cond (wrong r) 18 0) 0) (table_of r) (load.refused (cond (wrong r) 18 0))
+load-by : (r : Asked) → load.answered r ≡ cond (eqb (cond (wrong r) 18 0) 0) (table_of r) (load.refused (cond (wrong r) 18 0))
 unfolding load.answered wrong
-load-by (asks.Load n seed draws) = answer-by (out_of_range n seed draws) (load.tabled n seed draws)
-load-by asks.Other = refl
+load-by (Some r) = answer-by (out_of_range r.n r.seed r.draws) (load.tabled r.n r.seed r.draws)
+load-by None = refl
 
 module _ (s : List ℕ) where
   load-answers : Answers load.refused load.load_number (load_checks s) (load.answered (request s))
@@ -264,11 +266,11 @@ module _ (s : List ℕ) where
       (table-number (request s)) (table-not (request s))
 
   -- where it is not refused, a table is printed
-  never-printed : (r : Request) → request s ≡ r → wrong (request s) ≡ false → ¬ (load.output s ≡ refusal_row 18)
-  never-printed (asks.Load n seed draws) e h p =
-      let i = in_range_lem (request s) n seed draws e h in
-      not-refusal n seed draws 18 i.two_nodes i.four_nodes (ap load.printed (sym (answered-table (request s) n seed draws e h)) ∙ p)
-  never-printed asks.Other e h p = not-both (wrong (request s)) (other-refused (request s) e) h
+  never-printed : (r : Asked) → request s ≡ r → wrong (request s) ≡ false → ¬ (load.output s ≡ refusal_row 18)
+  never-printed (Some r) e h p =
+      let i = in_range_lem (request s) r e h in
+      not-refusal r.n r.seed r.draws 18 i.two_nodes i.four_nodes (ap load.printed (sym (answered-table (request s) r e h)) ∙ p)
+  never-printed None e h p = not-both (wrong (request s)) (other-refused (request s) e) h
 
   load-printed : load.output s ≡ refusal_row 18 → First (load_checks s) 18
   load-printed p = go (wrong (request s)) refl
@@ -277,7 +279,7 @@ module _ (s : List ℕ) where
       go true e = load-answers.refusal 18 (answered-refused (request s) e)
       go false e = absurd (never-printed (request s) refl e p)
 
-  load_same : (out : List ℕ) → length out < output_size → run_call s out ≡ after_run TooShort out
+  load_same : (out : List ℕ) → length out < output_size → run_call s out ≡ after_run (Err too_short) out
   unfolding run_call
   load_same out h = sym (run_short output_size (load.output s) out h)
 

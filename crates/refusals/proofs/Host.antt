@@ -9,23 +9,22 @@ use lib.ListN.{length}
 use Rattle.wire.specs.Limits.{max_body}
 use Rattle.rules.specs.Rules.{in_range}
 use Rattle.holdback.specs.Slots.{queue_size}
-use Rattle.node.specs.Answers.{AfterDeliver, AfterOffer, AfterSend, deliver_number, offer_number, send_number}
+use Rattle.node.specs.Answers.{AfterDeliver, AfterOffer, AfterSend, deliver_number, offer_number, send_number, SetUp}
 use Rattle.node.specs.Calls.{deliver_call, offer_call, send_call}
 use Rattle.node.specs.Record.{broken_record}
 use Rattle.node.specs.SetUp.{fresh_record, set_up}
 use Rattle.node.specs.Sizes.{out_size}
-use Rattle.node.specs.declared.DeliverAnswer.{DeliverAnswer}
-use Rattle.node.specs.declared.DeliverAnswer.TheVariants as deliver_answer
-use Rattle.node.specs.declared.OfferAnswer.{OfferAnswer}
-use Rattle.node.specs.declared.OfferAnswer.TheVariants as offer_answer
-use Rattle.node.specs.declared.SendAnswer.{SendAnswer}
-use Rattle.node.specs.declared.SendAnswer.TheVariants as send_answer
-use Rattle.node.specs.declared.SetUp.{SetUp}
-use Rattle.node.specs.declared.SetUpAnswer.TheVariants as set_up_answer
+use Rattle.node.specs.DeliverAnswer.{DeliverAnswer}
+use Rattle.node.specs.DeliverAnswer as deliver_answer
+use Rattle.node.specs.OfferAnswer.{OfferAnswer}
+use Rattle.node.specs.OfferAnswer as offer_answer
+use Rattle.node.specs.SendAnswer.{SendAnswer}
+use Rattle.node.specs.SendAnswer as send_answer
+use Rattle.node.specs.SetUpAnswer as set_up_answer
 use Rattle.host.specs.Exports.{DeliverLeft, OfferLeft, SendLeft, SetUpLeft, answer_size, deliver_told, offer_told}
 use Rattle.host.specs.Exports.{exported_deliver, exported_offer, exported_send, exported_set_up, send_told, set_up_left, set_up_told}
 use Rattle.host.proofs.Refused.{deliver-leaves, offer-leaves, send-leaves, set_up-leaves}
-use Rattle.image.proofs.Read.{good-image}
+use Rattle.image.proofs.Reading.{good-image}
 use Rattle.image.specs.Image.{bad_image, image, image_size, record_in}
 use Rattle.refusals.proofs.First.{by_number, turned}
 use Rattle.refusals.specs.CallChecks.{deliver_rest, host_deliver_checks, host_offer_checks, host_send_checks, host_set_up_checks, offer_rest, send_rest}

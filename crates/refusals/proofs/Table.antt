@@ -36,7 +36,7 @@ use Rattle.protocol.specs.Deliver as protocol_deliver
 use Rattle.wire.specs.Bytes as bytes
 use Rattle.wire.specs.Trailer as trailers
 use Rattle.node.specs.declared.Node.{Node as Record}
-use Rattle.node.specs.declared.OfferAnswer.TheVariants as offer_answer
+use Rattle.node.specs.OfferAnswer as offer_answer
 
 -- ---- the tie
 

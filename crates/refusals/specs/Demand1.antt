@@ -2,27 +2,25 @@
 -- The calls are `set_up`, `send_call`, `offer_call` and `deliver_call`, the definitions that the promises of set-up, send, offer and deliver cite,
 -- `run_call` of the load (document 02, (i)), whose refusal is printed, `write_call`, `step_call` and `walk_call` of the trail (document 02, (iii)),
 -- and `exported_set_up`, `exported_send`, `exported_offer` and `exported_deliver` of the host (document 02, (vi)), which return 0 or the refusal's number.
-use Rattle.std.specs.Prelude.{ℕ, ◌<◌, List, [], ◌∷◌, ◌≡◌, length}
+use Rattle.std.specs.Prelude.{ℕ, ◌<◌, List, [], ◌∷◌, ◌≡◌, length, Err}
 use Rattle.trail.specs.Step.{step_call, step_number}
 use Rattle.trail.specs.Walk.{walk_call, walk_number}
 use Rattle.trail.specs.Write.{AfterWrite, write_call, write_number}
 use Rattle.trail.specs.declared.walk.Cursor.{Cursor}
-use Rattle.trail.specs.declared.walk.StepAnswer.TheVariants as step_answer
-use Rattle.trail.specs.declared.walk.WalkAnswer.TheVariants as walk_answer
-use Rattle.trail.specs.declared.write.WriteAnswer.TheVariants as write_answer
+use Rattle.trail.specs.StepAnswer as step_answer
+use Rattle.trail.specs.WalkAnswer as walk_answer
+use Rattle.trail.specs.WriteAnswer as write_answer
 use Rattle.node.specs.declared.Node.{Node as Record}
-use Rattle.node.specs.declared.SetUp.{SetUp}
-use Rattle.node.specs.declared.SetUpAnswer.TheVariants as set_up_answer
-use Rattle.node.specs.declared.SendAnswer.TheVariants as send_answer
-use Rattle.node.specs.declared.OfferAnswer.TheVariants as offer_answer
-use Rattle.node.specs.declared.DeliverAnswer.TheVariants as deliver_answer
+use Rattle.node.specs.Answers.{SetUp, AfterDeliver, AfterOffer, AfterSend, deliver_number, offer_number, send_number, set_up_number}
+use Rattle.node.specs.SetUpAnswer as set_up_answer
+use Rattle.node.specs.SendAnswer as send_answer
+use Rattle.node.specs.OfferAnswer as offer_answer
+use Rattle.node.specs.DeliverAnswer as deliver_answer
 use Rattle.node.specs.SetUp.{fresh_record, set_up}
-use Rattle.node.specs.Answers.{AfterDeliver, AfterOffer, AfterSend, deliver_number, offer_number, send_number, set_up_number}
 use Rattle.node.specs.Calls.{deliver_call, offer_call, send_call}
 use Rattle.host.specs.Exports.{DeliverLeft, OfferLeft, SendLeft, SetUpLeft, exported_deliver, exported_offer, exported_send, exported_set_up}
-use Rattle.text.specs.Output.{after_run}
+use Rattle.text.specs.Output.{after_run, too_short}
 use Rattle.text.specs.Print.{refusal_row}
-use Rattle.text.specs.declared.Ran.TheVariants.{TooShort}
 use Rattle.request.specs.Request.{request}
 use Rattle.sweep.specs.Load.{answered, load_number, output, refused}
 use Rattle.sweep.specs.Run.{output_size, run_call}
@@ -93,7 +91,7 @@ pub record LoadSays (input : List ℕ) : Type 0 where
   pub answers : Answers refused load_number (load_checks input) (answered (request input))
   pub printed : output input ≡ refusal_row 18 → First (load_checks input) 18
   pub prints : First (load_checks input) 18 → output input ≡ refusal_row 18
-  pub same : (out : List ℕ) → length out < output_size → run_call input out ≡ after_run TooShort out
+  pub same : (out : List ℕ) → length out < output_size → run_call input out ≡ after_run (Err too_short) out
 
 -- the trail's write: a refusal leaves the file
 pub record WriteSays (file : List ℕ) (used : ℕ) (frame : List ℕ) (c : AfterWrite) : Type 0 where

@@ -1,5 +1,6 @@
 -- Worked examples, which pin the definitions: both sides of each bound, and inputs of another form. Assumes nothing.
 use Prim.Native.Nat.{ℕ}
+use Rattle.std.specs.Prelude.{None, Some}
 use mathlib.Core.Bool.{false, true}
 use mathlib.Core.List.{List, [], ◌++◌, ◌∷◌}
 use mathlib.Core.Path.{◌≡◌, refl}
@@ -8,7 +9,6 @@ use Rattle.text.specs.Pieces.{grown, split}
 use Rattle.text.specs.Print.{decimal, digits}
 use Rattle.request.specs.Request.{of_fields, of_lines, of_numbers, request}
 use Rattle.request.specs.Refusal18.{out_of_range, refused18, wrong, wrong_draws, wrong_n, wrong_seed}
-use Rattle.request.specs.declared.Request.TheVariants.{Load, Other}
 
 -- the line of three fields
 unfoldable line : List ℕ → List ℕ → List ℕ → List ℕ
@@ -38,17 +38,17 @@ bare = 50 ∷ 32 ∷ 49 ∷ 32 ∷ 49 ∷ []
 
 -- ten digits with leading zeros, eleven; no line feed, an empty input, a line feed more, a byte behind the line feed, a carriage return before it,
 -- a space more in front, between and behind, and a field less
-form_examples : (request (line (48 ∷ 50 ∷ []) (48 ∷ 48 ∷ 48 ∷ 48 ∷ 48 ∷ 48 ∷ 48 ∷ 48 ∷ 48 ∷ 55 ∷ []) (57 ∷ [])) ≡ Load 2 7 9)
-    × (request (line (48 ∷ 50 ∷ []) (48 ∷ 48 ∷ 48 ∷ 48 ∷ 48 ∷ 48 ∷ 48 ∷ 48 ∷ 48 ∷ 48 ∷ 55 ∷ []) (57 ∷ [])) ≡ Other)
-    × (request (bare ++ (10 ∷ [])) ≡ Load 2 1 1)
-    × (request bare ≡ Other)
-    × (request [] ≡ Other)
-    × (request (bare ++ (10 ∷ 10 ∷ [])) ≡ Other)
-    × (request (bare ++ (10 ∷ 49 ∷ [])) ≡ Other)
-    × (request (bare ++ (13 ∷ 10 ∷ [])) ≡ Other)
-    × (request (32 ∷ (bare ++ (10 ∷ []))) ≡ Other)
-    × (request (50 ∷ 32 ∷ 32 ∷ 49 ∷ 32 ∷ 49 ∷ 10 ∷ []) ≡ Other)
-    × (request (bare ++ (32 ∷ 10 ∷ [])) ≡ Other)
-    × (request (50 ∷ 32 ∷ 49 ∷ 10 ∷ []) ≡ Other)
+form_examples : (request (line (48 ∷ 50 ∷ []) (48 ∷ 48 ∷ 48 ∷ 48 ∷ 48 ∷ 48 ∷ 48 ∷ 48 ∷ 48 ∷ 55 ∷ []) (57 ∷ [])) ≡ Some (record { n = 2; seed = 7; draws = 9 }))
+    × (request (line (48 ∷ 50 ∷ []) (48 ∷ 48 ∷ 48 ∷ 48 ∷ 48 ∷ 48 ∷ 48 ∷ 48 ∷ 48 ∷ 48 ∷ 55 ∷ []) (57 ∷ [])) ≡ None)
+    × (request (bare ++ (10 ∷ [])) ≡ Some (record { n = 2; seed = 1; draws = 1 }))
+    × (request bare ≡ None)
+    × (request [] ≡ None)
+    × (request (bare ++ (10 ∷ 10 ∷ [])) ≡ None)
+    × (request (bare ++ (10 ∷ 49 ∷ [])) ≡ None)
+    × (request (bare ++ (13 ∷ 10 ∷ [])) ≡ None)
+    × (request (32 ∷ (bare ++ (10 ∷ []))) ≡ None)
+    × (request (50 ∷ 32 ∷ 32 ∷ 49 ∷ 32 ∷ 49 ∷ 10 ∷ []) ≡ None)
+    × (request (bare ++ (32 ∷ 10 ∷ [])) ≡ None)
+    × (request (50 ∷ 32 ∷ 49 ∷ 10 ∷ []) ≡ None)
 unfolding bare line request of_lines of_fields of_numbers split grown value continued is_digit
 form_examples = (refl, refl, refl, refl, refl, refl, refl, refl, refl, refl, refl, refl)

@@ -1,8 +1,7 @@
 -- 18 when the line has another form, n is out of range, the seed is 0 or above 32 bits, or the draws are not 1 to 400.
-use Rattle.std.specs.Prelude.{ℕ, Bool, ◌||◌, true, List, eqb, ltb}
+use Rattle.std.specs.Prelude.{ℕ, Bool, ◌||◌, true, List, eqb, ltb, Option, Some, None}
 use Rattle.request.specs.Request.{request}
-use Rattle.request.specs.declared.Request.{Request}
-use Rattle.request.specs.declared.Request.TheVariants.{Load, Other}
+use Rattle.request.specs.declared.Load.{Load}
 
 -- n is out of range, 2 to 4
 unfoldable pub wrong_n : ℕ → Bool
@@ -21,9 +20,9 @@ unfoldable pub out_of_range : ℕ → ℕ → ℕ → Bool
 out_of_range n seed draws = wrong_n n || wrong_seed seed || wrong_draws draws
 
 -- a request is refused: one of its numbers is out of range, or the line has another form
-unfoldable pub wrong : Request → Bool
-wrong (Load n seed draws) = out_of_range n seed draws
-wrong Other = true
+unfoldable pub wrong : Option Load → Bool
+wrong (Some load) = out_of_range load.n load.seed load.draws
+wrong None = true
 
 -- an input is refused, with 18
 unfoldable pub refused18 : List ℕ → Bool

@@ -6,102 +6,77 @@ ghost use Rattle.text.specs.Pieces.{split};
 ghost use Rattle.request.specs.Request.{of_numbers, of_fields, request};
 ghost use Rattle.request.specs.Refusal18.{out_of_range, wrong};
 
-use text::Number;
-
 /// What an input asks for; the numbers are as they stand in the line, and may be out of range.
-#[derive(Clone, Copy)]
-pub enum Request {
-    Load { n: usize, seed: u64, draws: usize },
-    Other,
+#[derive(Clone, Copy, Debug, PartialEq, Eq)]
+pub struct Load {
+    pub n: usize,
+    pub seed: u64,
+    pub draws: usize,
+}
+
+impl Load {
+    // Whether one of the three numbers is out of its range.
+    #[tactic(auto, unfolding(crate::specs::Refusal18::out_of_range, crate::specs::Refusal18::wrong_n, crate::specs::Refusal18::wrong_seed, crate::specs::Refusal18::wrong_draws))]
+    fn is_out_of_range(self) -> bool
+        ensures { result ≡ out_of_range self.n self.seed self.draws }
+    {
+        !matches!(
+            self,
+            Load {
+                n: 2..=4,
+                seed: 1..=4_294_967_295,
+                draws: 1..=400
+            }
+        )
+    }
 }
 
 // The request of three fields.
-fn of_numbers(n: Number, seed: Number, draws: Number) -> Request
+#[tactic(auto, unfolding(crate::specs::Request::of_numbers))]
+fn of_numbers(n: Option<u64>, seed: Option<u64>, draws: Option<u64>) -> Option<Load>
     ensures { result ≡ of_numbers n seed draws }
 {
-    match n {
-        Number::Is(u) => match seed {
-            Number::Is(v) => match draws {
-                Number::Is(w) => Request::Load {
-                    n: u as usize,
-                    seed: v,
-                    draws: w as usize,
-                },
-                Number::Not => Request::Other,
-            },
-            Number::Not => Request::Other,
-        },
-        Number::Not => Request::Other,
-    }
+    Some(Load {
+        n: n? as usize,
+        seed: seed?,
+        draws: draws? as usize,
+    })
 }
 
 // The request of a line, which has its line feed no more.
-fn parse_line(line: &[u8]) -> Request
+#[tactic(auto, using(crate::proofs::Parts::fields))]
+fn parse_line(line: &[u8]) -> Option<Load>
     ensures { result ≡ of_fields (split 32 line.now) }
 {
-    let a = text::find(line, 0, b' ');
-    if a == line.len() {
-        return Request::Other;
-    }
-    let i = a + 1;
-    let b = text::find(line, i, b' ');
-    if b == line.len() {
-        return Request::Other;
-    }
-    let j = b + 1;
-    let e = text::find(line, j, b' ');
-    if e < line.len() {
-        return Request::Other;
-    }
-    let n = text::field(line, 0, a, 10);
-    let seed = text::field(line, i, b, 10);
-    let draws = text::field(line, j, e, 10);
-    of_numbers(n, seed, draws)
+    let (n, fields) = text::split_once(line, b' ')?;
+    let (seed, draws) = text::split_once(fields, b' ')?;
+    of_numbers(
+        text::value(n, 10),
+        text::value(seed, 10),
+        text::value(draws, 10),
+    )
 }
 
 /// The request of an input: one line, ended by its line feed, and nothing behind it.
-pub fn parse(input: &[u8]) -> Request
+#[tactic(auto, using(crate::proofs::Parts::lines))]
+pub fn parse(input: &[u8]) -> Option<Load>
     ensures { result ≡ request input.now }
 {
-    let end = text::find(input, 0, b'\n');
-    if end == input.len() {
-        return Request::Other;
+    let (line, rest) = text::split_once(input, b'\n')?;
+    if rest.is_empty() {
+        parse_line(line)
+    } else {
+        None
     }
-    if end + 1 < input.len() {
-        return Request::Other;
-    }
-    parse_line(&input[..end])
-}
-
-// Whether one of the three numbers is out of its range.
-#[tactic(auto, using(std::proofs::lemmas::Grind::common_steps), unfolding(crate::specs::Refusal18::out_of_range, crate::specs::Refusal18::wrong_n, crate::specs::Refusal18::wrong_seed, crate::specs::Refusal18::wrong_draws))]
-fn out_of_range(n: usize, seed: u64, draws: usize) -> bool
-    ensures { result ≡ out_of_range n seed draws }
-{
-    if n < 2 {
-        return true;
-    }
-    if 4 < n {
-        return true;
-    }
-    if seed == 0 {
-        return true;
-    }
-    if 4_294_967_295 < seed {
-        return true;
-    }
-    if draws < 1 {
-        return true;
-    }
-    400 < draws
 }
 
 /// Whether a request is refused, with 18.
-pub fn is_wrong(r: Request) -> bool
+#[tactic(auto, unfolding(crate::specs::Refusal18::wrong))]
+pub fn is_wrong(r: Option<Load>) -> bool
     ensures { result ≡ wrong r }
 {
     match r {
-        Request::Load { n, seed, draws } => out_of_range(n, seed, draws),
-        Request::Other => true,
+        Some(load) => load.is_out_of_range(),
+        None => true,
     }
 }

@@ -6,8 +6,11 @@ use mathlib.Core.Path.{◌≡◌, refl}
 use native.Mathlib.Omega.{arith}
 use borrow.Author.Tests.{le-leb, le-ltb, lt-leb, lt-ltb}
 use lib.Dec.{eqb}
-use lib.ListN.{get_or-eq_default, get_or, length}
-use Rattle.rights.specs.Topics.{Group, motion, exposure, filing, notes, group, group_of, topic}
+use lib.ListN.{get_or}
+use Rattle.std.proofs.Common.{Option, Some, None}
+use Rattle.std.specs.List.{slice_get}
+use Rattle.std.specs.Option.{option_eq, unwrap_or}
+use Rattle.rights.specs.Topics.{motion, exposure, filing, notes, group, group_of, topic}
 use Rattle.rights.specs.Rights.{lacks_right, panel, place}
 
 pub in_motion : (t : ℕ) → t ≤ 31 → group t ≡ motion
@@ -26,34 +29,22 @@ pub in_notes : (t : ℕ) → 127 < t → group t ≡ notes
 unfolding group
 in_notes t h = rw (lt-leb t 31 (omega arith), lt-leb t 95 (omega arith), lt-leb t 127 h)
 
--- the topic of an empty body, and of another
-pub topic-none : (body : List ℕ) → length body ≡ 0 → topic body ≡ 128
-topic-none [] h = refl
-topic-none (b ∷ l) h = absurd (omega arith)
-
-pub topic-some : (body : List ℕ) → 0 < length body → topic body ≡ get_or body 0 0
-topic-some [] h = absurd (omega arith)
-topic-some (b ∷ l) h = refl
-
--- there are four
-pub place-below : (g : Group) → place g < 4
-place-below motion = omega arith
-place-below exposure = omega arith
-place-below filing = omega arith
-place-below notes = omega arith
+-- the topic of a body, as the code takes it
+pub topic_first : (body : List ℕ) → unwrap_or (slice_get body 0) 128 ≡ topic body
+topic_first [] = refl
+topic_first (b ∷ l) = refl
 
 -- a class above 3 lacks every right
 pub no_class : (table : List ℕ) (class : ℕ) (body : List ℕ) → panel < class → lacks_right table class body ≡ true
 unfolding lacks_right
 no_class table class body h = rw (lt-ltb panel class h)
 
--- another lacks it where the table has no byte for it
-pub no_byte : (table : List ℕ) (class i : ℕ) (body : List ℕ) → class ≤ panel → i ≡ place (group_of body) → length table ≤ 4 * class + i
-    → lacks_right table class body ≡ true
-unfolding lacks_right
-no_byte table class i body h e k = rw (le-ltb panel class h, ← e, get_or-eq_default table 0 k)
+-- a byte that is not there is not 1
+pub may : (o : Option ℕ) → option_eq eqb o (Some 1) ≡ eqb (unwrap_or o 0) 1
+may None = refl
+may (Some x) = refl
 
--- and where that byte is not 1
+-- another lacks it where the table has no byte 1 for it
 pub by_byte : (table : List ℕ) (class i : ℕ) (body : List ℕ) → class ≤ panel → i ≡ place (group_of body)
     → not (eqb (get_or table (4 * class + i) 0) 1) ≡ lacks_right table class body
 unfolding lacks_right

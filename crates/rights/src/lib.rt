@@ -9,6 +9,7 @@ ghost use Rattle.rights.specs.Ours.{ours};
 /// The topic of an empty body.
 pub const EMPTY_TOPIC: u8 = 128;
 
+// Kept: the C interface takes a class as any number, and one above these is refused.
 /// The classes of nodes.
 pub const MOVER: usize = 0;
 
@@ -28,6 +29,7 @@ pub const TABLE_SIZE: usize = 16;
 pub const OURS: [u8; TABLE_SIZE] = [1, 0, 0, 1, 0, 1, 0, 1, 0, 0, 1, 1, 0, 0, 0, 1];
 
 /// The constant is the table that the definitions name.
+#[tactic(auto, unfolding(crate::specs::Ours::ours))]
 pub fn ours() -> [u8; TABLE_SIZE]
     ensures { result ≡ ours }
 {
@@ -35,16 +37,15 @@ pub fn ours() -> [u8; TABLE_SIZE]
 }
 
 /// The topic of a body: its first byte.
+#[tactic(auto, using(crate::proofs::Groups::topic_first))]
 pub fn topic(body: &[u8]) -> u8
     ensures { result ≡ topic body.now }
 {
-    if body.len() == 0 {
-        return EMPTY_TOPIC;
-    }
-    body[0]
+    body.first().copied().unwrap_or(EMPTY_TOPIC)
 }
 
 /// The place of a topic's group among the four of a class: motion, exposure, filing, notes.
+#[tactic(auto, using(crate::proofs::Groups::in_motion, crate::proofs::Groups::in_exposure, crate::proofs::Groups::in_filing, crate::proofs::Groups::in_notes))]
 pub fn group(topic: u8) -> usize
     ensures { result ≡ place (group topic) }
 {
@@ -56,16 +57,14 @@ pub fn group(topic: u8) -> usize
     }
 }
 
+// Kept: C hands any number for a class, and the place in the table is only computed for one that is at most 3.
 /// Whether a class is above 3, or lacks by this table the right to the topic of the body; a shorter table gives no right past its end.
 pub fn lacks_right(table: &[u8], class: usize, body: &[u8]) -> bool
     ensures { result ≡ lacks_right table.now class body.now }
 {
-    if PANEL < class {
+    if class > PANEL {
         return true;
     }
     let at = GROUPS * class + group(topic(body));
-    if table.len() <= at {
-        return true;
-    }
-    table[at] != 1
+    table.get(at).copied() != Some(1)
 }

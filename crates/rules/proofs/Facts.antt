@@ -3,7 +3,7 @@ use Prim.Native.Nat.{◌*◌, ◌<◌, ◌≤◌, ℕ}
 use mathlib.Core.Bool.{Bool, ◌&&◌, ◌||◌, and-false, and-true, false, not, true}
 use mathlib.Core.List.{List}
 use mathlib.Core.Logic.{⊎_elim}
-use mathlib.Core.Path.{◌∙◌, ◌≡◌, ap₂, refl, subst}
+use mathlib.Core.Path.{◌≡◌, refl, subst}
 use native.Mathlib.Decide.{dec_lt}
 use native.Mathlib.Omega.{arith}
 use borrow.Author.Tests.{eq-eqb, le-leb, lt-leb, ne_eqb}
@@ -79,15 +79,6 @@ pub limit_either : (d : Node) (me : ℕ) (m : Matrix) (v : ℕ → ℕ) → d.me
     → (some_below 12 (λ y. eqb (m me y) max_count) || some_below 12 (λ x. eqb (v x) max_count)) ≡ at_limit d
 unfolding at_limit
 limit_either d me m v p q r = rw (← p, ← q, ← r)
-
--- the passes put together
-pub counts-kept : (me n : ℕ) (m : Matrix) (v : ℕ → ℕ) (zd zc z mw vw w mz vz o zw all : Bool) → zd ≡ zero_diagonal m → zc ≡ zero_column me m → z ≡ (zd && zc)
-    → mw ≡ each_below 12 (λ x. each_below 12 (λ y. leb (m x y) max_count)) → vw ≡ each_below 12 (λ x. leb (v x) max_count) → w ≡ (mw && vw)
-    → mz ≡ each_below 12 (λ x. each_below 12 (λ y. ltb x n && ltb y n || eqb (m x y) 0)) → vz ≡ each_below 12 (λ x. ltb x n || eqb (v x) 0) → o ≡ (mz && vz)
-    → zw ≡ (z && w) → all ≡ (zw && o) → all ≡ (zero_diagonal m && zero_column me m && within_limit m v && zero_from n m v)
-unfolding within_limit zero_from
-counts-kept me n m v zd zc z mw vw w mz vz o zw all a b c d e f g h i j k =
-    k ∙ ap₂ ◌&&◌ (j ∙ ap₂ ◌&&◌ (c ∙ ap₂ ◌&&◌ a b) (f ∙ ap₂ ◌&&◌ d e)) (i ∙ ap₂ ◌&&◌ g h)
 
 -- what a record that breaks no rule keeps, on the matrix and the vector of its arrays
 pub record Unbroken (me n cap : ℕ) (m : Matrix) (v : ℕ → ℕ) (held : ℕ) : Type 0 where

@@ -1,28 +1,30 @@
 -- Laws of the passes: one turn of a loop that tests each number below a bound, and the passes over rows as passes over the array. Assumes nothing.
-use Prim.Native.Nat.{◌%◌, ◌*◌, ◌+◌, ◌/◌, ◌<◌, ◌≤◌, suc, zero, ℕ}
-use mathlib.Core.Bool.{Bool, ◌&&◌, ◌||◌, and_assoc, false, true}
+use Prim.Native.Nat.{◌%◌, ◌*◌, ◌+◌, ◌-◌, ◌/◌, ◌<◌, ◌≤◌, suc, zero, ℕ}
+use mathlib.Core.Bool.{Bool, ◌&&◌, ◌||◌, and_assoc, false, not, true}
 use mathlib.Core.List.{List}
 use mathlib.Core.Path.{◌∙◌, ◌≡◌, ap, ap₂, refl, sym}
 use native.Mathlib.Numerals.{add-one}
 use native.Mathlib.Omega.{arith}
+use native.Mathlib.Nat.{add-zero}
+use borrow.Author.Tests.{le-ltb, lt-ltb}
+use Rattle.std.specs.List.{list_all}
+use Rattle.std.proofs.lemmas.List.Folds.{list_all_more}
+use Rattle.std.proofs.Common.{length-drop, length-take-le, get_or-drop, get_or-take, take_all}
 use lib.Dec.{T, eqb, lt→ltb, ltb, ltb→lt}
-use lib.ListN.{get_or}
-use Rattle.matrix.proofs.Array.{entry_place, place-column, place-row}
-use Rattle.matrix.specs.Array.{entry}
+use lib.ListN.{drop, get_or, length, take}
+use Rattle.matrix.proofs.Array.{entry_in, entry_place, place-column, place-row}
+use Rattle.matrix.specs.Array.{entry, vector}
 use Rattle.protocol.proofs.Below.{all-each, each_all}
 use Rattle.protocol.specs.Node.{each_below, some_below}
 use Rattle.wire.proofs.Tests.{T_and, and_T, same_test}
 
 -- one turn
-pub each_turn : (k : ℕ) (p : ℕ → Bool) (ok ok' t : Bool) → ok ≡ each_below k p → t ≡ p k → ok' ≡ (ok && t) → ok' ≡ each_below (k + 1) p
-each_turn k p ok ok' t a b c = c ∙ rw (a, b, add-one)
+pub each_more : (k : ℕ) (p : ℕ → Bool) → each_below (k + 1) p ≡ (each_below k p && p k)
+each_more k p = rw add-one
 
 -- one turn behind another pass, which gave r
-pub each_after : (r : Bool) (k : ℕ) (p : ℕ → Bool) (ok ok' t : Bool) → ok ≡ (r && each_below k p) → t ≡ p k → ok' ≡ (ok && t) → ok' ≡ (r && each_below (k + 1) p)
-each_after r k p ok ok' t a b c = c ∙ rw (a, b, add-one) (and_assoc r (each_below k p) (p k))
-
-pub some_turn : (k : ℕ) (p : ℕ → Bool) (ok ok' t : Bool) → ok ≡ some_below k p → t ≡ p k → ok' ≡ (ok || t) → ok' ≡ some_below (k + 1) p
-some_turn k p ok ok' t a b c = c ∙ rw (a, b, add-one)
+pub each_after : (r : Bool) (k : ℕ) (p : ℕ → Bool) → (r && each_below k p && p k) ≡ (r && each_below (k + 1) p)
+each_after r k p = rw add-one (and_assoc r (each_below k p) (p k))
 
 -- tests that agree below k, and tests that hold there
 pub each_ext : (k : ℕ) (p q : ℕ → Bool) → ((x : ℕ) → x < k → p x ≡ q x) → each_below k p ≡ each_below k q
@@ -107,3 +109,76 @@ outside n e h = same_test (each_below 12 rows && each_below n columns) (each_bel
         (all-each 12 rows (λ x k. all-each 12 (λ y. ltb x n || eqb (e x y) 0) (λ y l. cell_row (ltb x n) (ltb y n) (eqb (e x y) 0) (at x k y l))))
         (all-each n columns (λ x k. all-each 12 (λ y. ltb y n || eqb (e x y) 0)
         (λ y l. cell-column (ltb x n) (ltb y n) (eqb (e x y) 0) (lt→ltb x n k) (at x (omega arith) y l))))
+
+-- each number from i on
+each_from : (r i : ℕ) (p : ℕ → Bool) → each_below (i + r) (λ k. ltb k i || p k) ≡ each_below r (λ k. p (i + k))
+each_from zero i p = rw add-zero (each-true i (λ k. ltb k i || p k) (λ k h. rw (lt-ltb k i h)))
+each_from (suc r) i p =
+    let e : i + suc r ≡ suc (i + r) = omega arith in
+    rw (e, le-ltb (i + r) i (omega arith)) (ap (λ (b : Bool). b && p (i + r)) (each_from r i p))
+
+-- each element of a list, and each from place i on
+take_places : (p : ℕ → Bool) (l : List ℕ) (k : ℕ) → k ≤ length l → list_all p (take k l) ≡ each_below k (λ i. p (get_or l i 0))
+take_places p l zero h = refl
+take_places p l (suc k) h =
+    ap (λ (n : ℕ). list_all p (take n l)) (sym (add-one k)) ∙ list_all_more p l k 0 (omega arith) ∙ ap (λ (b : Bool). b && p (get_or l k 0)) (take_places p l k (omega arith))
+
+pub all_places : (p : ℕ → Bool) (l : List ℕ) → list_all p l ≡ each_below (length l) (λ i. p (get_or l i 0))
+all_places p l = ap (list_all p) (sym (take_all (length l) l (omega arith))) ∙ take_places p l (length l) (omega arith)
+
+pub rest_places : (p : ℕ → Bool) (l : List ℕ) (i d : ℕ) → i ≤ length l → d ≡ length l - i
+    → list_all p (take d (drop i l)) ≡ each_below (length l) (λ k. ltb k i || p (get_or l k 0))
+rest_places p l i d h q =
+    let e : i + (length l - i) ≡ length l = omega arith in
+    ap (list_all p) (take_all d (drop i l) (omega (arith, length-drop i l)))
+    ∙ all_places p (drop i l)
+    ∙ rw length-drop (each_ext (length l - i) (λ k. p (get_or (drop i l) k 0)) (λ k. p (get_or l (i + k) 0)) (λ k _. rw get_or-drop))
+    ∙ sym (each_from (length l - i) i (λ k. p (get_or l k 0))) ∙ ap (λ (n : ℕ). each_below n (λ k. ltb k i || p (get_or l k 0))) e
+
+-- a row of an array, and its part from place i on
+row_length : (l : List ℕ) (x d : ℕ) → length l ≡ 144 → x < 12 → d ≡ 12 → length (take d (drop (12 * x) l)) ≡ 12
+row_length l x d e h q = length-take-le d (drop (12 * x) l) (omega (arith, length-drop (12 * x) l)) ∙ q
+
+row_get_or : (l : List ℕ) (x y d : ℕ) → x < 12 → y < 12 → d ≡ 12 → get_or (take d (drop (12 * x) l)) y 0 ≡ entry l x y
+row_get_or l x y d h k q = get_or-take d (drop (12 * x) l) y 0 (omega arith) ∙ rw get_or-drop (sym (entry_in l x y h k))
+
+pub row_places : (p : ℕ → Bool) (l : List ℕ) (x d : ℕ) → length l ≡ 144 → x < 12 → d ≡ 12
+    → list_all p (take d (drop (12 * x) l)) ≡ each_below 12 (λ y. p (entry l x y))
+row_places p l x d e h q =
+    let r = take d (drop (12 * x) l) in
+    all_places p r ∙ ap (λ (n : ℕ). each_below n (λ y. p (get_or r y 0))) (row_length l x d e h q)
+    ∙ each_ext 12 (λ y. p (get_or r y 0)) (λ y. p (entry l x y)) (λ y k. ap p (row_get_or l x y d h k q))
+
+pub row_rest : (p : ℕ → Bool) (l : List ℕ) (x d i e : ℕ) → length l ≡ 144 → x < 12 → d ≡ 12 → i ≤ 12 → e ≡ d - i
+    → list_all p (take e (drop i (take d (drop (12 * x) l)))) ≡ each_below 12 (λ y. ltb y i || p (entry l x y))
+row_rest p l x d i j e h q k o =
+    let r = take d (drop (12 * x) l) in
+    let n = row_length l x d e h q in
+    rest_places p r i j (omega (arith, n)) (omega (arith, n)) ∙ ap (λ (n : ℕ). each_below n (λ y. ltb y i || p (get_or r y 0))) n
+    ∙ each_ext 12 (λ y. ltb y i || p (get_or r y 0)) (λ y. ltb y i || p (entry l x y)) (λ y k. ap (λ (v : ℕ). ltb y i || p v) (row_get_or l x y d h k q))
+
+-- not each fails a test: some passes it
+pub not_each : (k : ℕ) (p : ℕ → Bool) → not (each_below k (λ i. not (p i))) ≡ some_below k p
+not_each zero p = refl
+not_each (suc k) p = not_and (each_below k (λ i. not (p i))) (p k) ∙ ap (λ (b : Bool). b || p k) (not_each k p)
+  where
+    not_and : (a b : Bool) → not (a && not b) ≡ (not a || b)
+    not_and true true = refl
+    not_and true false = refl
+    not_and false b = refl
+
+-- all of an array, and its rows from n on
+pub array_places : (p : ℕ → Bool) (l : List ℕ) → length l ≡ 144 → list_all p l ≡ each_below 12 (λ x. each_below 12 (λ y. p (entry l x y)))
+array_places p l e = all_places p l ∙ ap (λ (n : ℕ). each_below n (λ i. p (get_or l i 0))) e ∙ each-array p l
+
+pub array_rest : (l : List ℕ) (n d : ℕ) → length l ≡ 144 → n ≤ 12 → d ≡ 144 - 12 * n
+    → list_all (λ v. eqb v 0) (take d (drop (12 * n) l)) ≡ each_below 12 (λ x. each_below 12 (λ y. ltb x n || eqb (entry l x y) 0))
+array_rest l n d e h q =
+    rest_places (λ v. eqb v 0) l (12 * n) d (omega arith) (omega arith) ∙ ap (λ (k : ℕ). each_below k (λ i. ltb i (12 * n) || eqb (get_or l i 0) 0)) e ∙ rows-array n l
+
+-- all of a vector, and its counts from n on
+pub vector_places : (p : ℕ → Bool) (l : List ℕ) → length l ≡ 12 → list_all p l ≡ each_below 12 (λ x. p (vector l x))
+vector_places p l e = all_places p l ∙ ap (λ (n : ℕ). each_below n (λ i. p (get_or l i 0))) e
+
+pub vector_rest : (p : ℕ → Bool) (l : List ℕ) (n d : ℕ) → length l ≡ 12 → n ≤ 12 → d ≡ 12 - n → list_all p (take d (drop n l)) ≡ each_below 12 (λ x. ltb x n || p (vector l x))
+vector_rest p l n d e h q = rest_places p l n d (omega arith) (omega arith) ∙ ap (λ (k : ℕ). each_below k (λ i. ltb i n || p (get_or l i 0))) e

@@ -1,173 +1,177 @@
-//! What the script works on, in cells of one lent array.
-//! A cell is named by where its part begins and its place there; one past the end reads as 0 and is not written.
-ghost use Rattle.std.specs.Prelude.{◌≤◌};
+//! The state of a script: records and queues, the log of issued frames, and the frame at hand.
+ghost use Rattle.std.specs.Prelude.{◌≡◌, ◌<◌, vec_len};
 
-use super::text;
+use super::frames::{Frame, copy_padded};
 use node::Node;
+use std::alloc::{AllocError, Global};
 
-/// How many frames were logged.
-pub const COUNT: usize = 0;
+/// Places: as many as there may be nodes.
+const PLACES: usize = Node::MAX_NODES;
 
-/// How long the frame at hand is.
-pub const LENGTH: usize = 1;
+/// Bytes of a place's queue: a few more than the node's, so that a call can be lent too many.
+pub const QUEUE: usize = Node::QUEUE_SIZE + 8;
 
-/// 1 where bytes or counts that were stored differ from what stood there.
-pub const CHANGED: usize = 2;
+/// Frames that the log keeps; another one takes the place of the first.
+const LOG: usize = 128;
 
-// Twelve records of 160 cells: me, n, cap, held, the matrix, the vector.
-const RECORDS: usize = 16;
-
-// Twelve queues.
-const QUEUES: usize = 1936;
-
-/// The log: 128 places of 802 bytes.
-pub const LOG: usize = 156016;
-
-/// What a call left in its frame output.
-pub const OUT: usize = 258672;
-
-/// What a call left in its body output.
-pub const BODY: usize = 262768;
-
-/// The frame at hand: it stands last, so that no write past its end meets another part.
-pub const FRAME: usize = 262896;
-
-/// All cells.
-pub const ALL: usize = 263996;
-
-pub type Cells = [usize; ALL];
-
-/// The cell i of the part that begins at a.
-pub fn at(s: &Cells, a: usize, i: usize) -> usize {
-    if ALL <= a {
-        return 0;
-    }
-    if i < ALL - a { s[a + i] } else { 0 }
+/// A change to a place's record or queue.
+#[derive(Clone, Copy)]
+pub enum Edit {
+    /// All of a record but its counts.
+    Sizes {
+        me: u8,
+        n: u8,
+        cap: u8,
+        held: u8,
+    },
+    Matrix {
+        row: usize,
+        column: usize,
+        count: u32,
+    },
+    Vector {
+        from: usize,
+        count: u32,
+    },
+    /// The counts of a column from a row to a row, but not the one on the diagonal.
+    Column {
+        column: usize,
+        first: usize,
+        last: usize,
+        count: u32,
+    },
+    QueueByte {
+        at: usize,
+        byte: u8,
+    },
 }
 
-/// Writes it.
-pub fn put(s: &mut Cells, a: usize, i: usize, v: usize) {
-    if ALL <= a {
-        return;
-    }
-    if i < ALL - a {
-        s[a + i] = v;
-    }
+// Where a count stands in a matrix.
+fn entry(row: usize, column: usize) -> usize
+    ensures { result < 144 }
+{
+    Node::MAX_NODES * (row % Node::MAX_NODES) + column % Node::MAX_NODES
 }
 
-// Writes it, and notes where that changes it.
-fn renew(s: &mut Cells, a: usize, i: usize, v: usize) {
-    if at(s, a, i) != v {
-        put(s, CHANGED, 0, 1);
-        put(s, a, i, v);
-    }
+/// A record and its queue.
+#[derive(Clone, Copy, PartialEq, Eq)]
+pub struct Place {
+    pub node: Node,
+    pub queue: [u8; QUEUE],
 }
 
-/// Whether the cells from `start` to n are all v.
-pub fn filled(s: &Cells, a: usize, start: usize, n: usize, v: usize) -> bool {
-    let mut i = start;
-    while i < n {
-        if at(s, a, i) != v {
-            return false;
+impl Place {
+    /// All zero.
+    pub fn new() -> Place {
+        Place {
+            node: Node {
+                me: 0,
+                n: 0,
+                cap: 0,
+                m: [0; 144],
+                deliv: [0; 12],
+                held: 0,
+            },
+            queue: [0; QUEUE],
         }
-        i += 1;
     }
-    true
-}
 
-// The byte i of n, and 0 behind them.
-fn part(s: &Cells, a: usize, i: usize, n: usize) -> usize {
-    if i < n { at(s, a, i) % 256 } else { 0 }
-}
-
-/// Fills a place of `size` bytes with n of them, and zeros behind.
-pub fn copy(s: &mut Cells, to: usize, size: usize, from: usize, n: usize) {
-    let mut i: usize = 0;
-    while i < size {
-        put(s, to, i, part(s, from, i, n));
-        i += 1;
+    /// Changes one thing about it. Rows, columns and senders are counted modulo the nodes; a byte past the queue's end is its last.
+    pub fn edit(&mut self, edit: Edit) {
+        match edit {
+            Edit::Sizes { me, n, cap, held } => {
+                self.node.me = me;
+                self.node.n = n;
+                self.node.cap = cap;
+                self.node.held = held;
+            }
+            Edit::Matrix { row, column, count } => self.node.m[entry(row, column)] = count,
+            Edit::Vector { from, count } => self.node.deliv[from % Node::MAX_NODES] = count,
+            Edit::Column {
+                column,
+                first,
+                last,
+                count,
+            } => self.set_column(column, first, last, count),
+            Edit::QueueByte { at, byte } => self.queue[at.min(QUEUE - 1)] = byte,
+        }
     }
-}
 
-/// Reads bytes.
-pub fn load_bytes(s: &Cells, a: usize, t: &mut [u8]) {
-    let mut i: usize = 0;
-    while i < t.len() {
-        t[i] = text::byte(at(s, a, i));
-        i += 1;
+    // Writes the counts of a column from a row to a row, but not the one on the diagonal.
+    fn set_column(&mut self, column: usize, first: usize, last: usize, count: u32) {
+        for row in first..=last.min(Node::MAX_NODES - 1) {
+            if row != column {
+                self.node.m[entry(row, column)] = count;
+            }
+        }
     }
-}
 
-// Reads counts.
-fn load_counts(s: &Cells, a: usize, t: &mut [u32]) {
-    let mut i: usize = 0;
-    while i < t.len() {
-        t[i] = (at(s, a, i) % 4294967296) as u32;
-        i += 1;
-    }
-}
-
-/// Writes bytes, and notes a change.
-pub fn store_bytes(s: &mut Cells, a: usize, t: &[u8]) {
-    let mut i: usize = 0;
-    while i < t.len() {
-        renew(s, a, i, text::wide(t[i]));
-        i += 1;
+    // Puts a frame into a slot, with zeros behind it.
+    fn put_frame(&mut self, slot: usize, frame: &[u8]) {
+        let start = Node::MAX_FRAME * slot.min(Node::MAX_HELD - 1);
+        let end = start + Node::MAX_FRAME;
+        copy_padded(&mut self.queue[start..end], frame);
     }
 }
 
-// Writes counts, and notes a change.
-fn store_counts(s: &mut Cells, a: usize, t: &[u32]) {
-    let mut i: usize = 0;
-    while i < t.len() {
-        renew(s, a, i, text::wide32(t[i]));
-        i += 1;
+/// What the commands work on.
+#[derive(Drop)]
+pub struct State {
+    places: Vec<Place>,
+    log: Vec<[u8; Node::MAX_FRAME]>,
+    logged: usize,
+    pub frame: Frame,
+    ghost whole_places: { vec_len places ≡ 12 },
+    ghost whole_log: { vec_len log ≡ 128 },
+}
+
+impl State {
+    /// All zero and empty.
+    pub fn new(alloc: Global) -> Result<State, AllocError> {
+        Ok(State {
+            places: vec![in alloc; Place::new(); PLACES]?,
+            log: vec![in alloc; [0; Node::MAX_FRAME]; LOG]?,
+            logged: 0,
+            frame: Frame::new(),
+        })
     }
-}
 
-/// Where record k begins.
-pub fn record(k: usize) -> usize
-    ensures { result ≤ 1776 }
-{
-    RECORDS + k % 12 * 160
-}
-
-/// Where queue k begins.
-pub fn queue(k: usize) -> usize
-    ensures { result ≤ 143176 }
-{
-    QUEUES + k % 12 * 12840
-}
-
-/// Record k.
-pub fn load(s: &Cells, k: usize) -> Node {
-    let a = record(k);
-    let mut m = [0u32; 144];
-    load_counts(s, a + 4, &mut m);
-    let mut deliv = [0u32; 12];
-    load_counts(s, a + 148, &mut deliv);
-    Node {
-        me: text::byte(at(s, a, 0)),
-        n: text::byte(at(s, a, 1)),
-        cap: text::byte(at(s, a, 2)),
-        m,
-        deliv,
-        held: text::byte(at(s, a, 3)),
+    /// Makes it all zero and empty again.
+    pub fn reset(&mut self) {
+        self.places.fill(Place::new());
+        self.log.fill([0; Node::MAX_FRAME]);
+        self.logged = 0;
+        self.frame = Frame::new();
     }
-}
 
-/// Makes record k this one, and notes a change.
-pub fn store(s: &mut Cells, k: usize, r: Node) {
-    let a = record(k);
-    store_bytes(s, a, &[r.me, r.n, r.cap, r.held]);
-    store_counts(s, a + 4, &r.m);
-    store_counts(s, a + 148, &r.deliv);
-}
+    /// Place k.
+    pub fn place(&self, k: usize) -> &Place {
+        &self.places[k % PLACES]
+    }
 
-/// The length of the frame that begins at a, by its own e and b.
-pub fn frame_length(s: &Cells, a: usize) -> usize
-    ensures lower_bound { 12 ≤ result }
-    ensures upper_bound { result ≤ 2000 }
-{
-    12 + 6 * (at(s, a, 3) % 256) + at(s, a, 4) % 256
+    /// Place k, to be written.
+    pub fn place_mut(&mut self, k: usize) -> &mut Place {
+        &mut self.places[k % PLACES]
+    }
+
+    /// Puts an issued frame into the next place of the log, and gives its number there, from 1.
+    pub fn log(&mut self, frame: &[u8]) -> usize {
+        let at = self.logged % LOG;
+        copy_padded(&mut self.log[at], frame);
+        self.logged = at + 1;
+        self.logged
+    }
+
+    /// Puts the frame at hand into a slot of place k's queue.
+    pub fn put_frame(&mut self, k: usize, slot: usize) {
+        let frame = self.frame;
+        self.place_mut(k).put_frame(slot, frame.bytes());
+    }
+
+    /// The frame with this number in the log becomes the frame at hand; there is none with number 0.
+    pub fn take_frame(&mut self, issue: usize) {
+        if let Some(at) = issue.checked_sub(1) {
+            self.frame = Frame::from_place(&self.log[at.min(LOG - 1)]);
+        }
+    }
 }

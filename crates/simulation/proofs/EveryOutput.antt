@@ -1,5 +1,6 @@
 -- Every output of the yard is `R 17` alone, or ends with the T line of a state that demand 3 speaks of. Assumes nothing.
 use Prim.Native.Nat.{ℕ, ◌<◌, ◌≤◌}
+use Rattle.std.specs.Prelude.{None, Option, Some}
 use mathlib.Core.Bool.{Bool, true, false, cond}
 use mathlib.Core.List.{List, [], ◌∷◌, ◌++◌, append_assoc}
 use mathlib.Core.Logic.{◌⊎◌, inl, inr}
@@ -13,16 +14,14 @@ use Rattle.text.specs.Pieces.{split}
 use Rattle.text.specs.Print.{refusal_row}
 use Rattle.commands.specs.Commands.{command}
 use Rattle.commands.specs.FirstLine.{first_line, given}
-use Rattle.commands.specs.declared.FirstLine.{FirstLine}
-use Rattle.commands.specs.declared.Form.{Form}
-use Rattle.commands.specs.declared.Form.TheVariants as form
+use Rattle.commands.specs.declared.Sizes.{Sizes}
 use Rattle.world.specs.Start.{cap_of, startable}
 use Rattle.counting.specs.State.{State, opened}
 use Rattle.simulation.specs.EveryYard.{EveryOutput, Totalled, after_lines}
 use Rattle.simulation.specs.Yard.{AfterLine, alone, line, lines, max_input, of_lines, output, started, total_row}
 use Rattle.simulation.proofs.EveryYard.{every_yard}
 use Rattle.simulation.proofs.Lines.{lines-last, lines_more}
-use Rattle.simulation.proofs.Runs.{lines-alone, lines-first, output-lines, output-long, started_no, started-other, started_yes}
+use Rattle.simulation.proofs.Runs.{lines-alone, lines-first, output-lines, output_long, started_no, started-none, started_yes}
 
 -- the last piece apart
 last_apart : (p : List ℕ) (ps : List (List ℕ)) → (ls : List (List ℕ)) × (l : List ℕ) × (p ∷ ps ≡ ls ++ (l ∷ []))
@@ -42,8 +41,8 @@ ends n y (m ∷ ls) l =
 
 module _ (s : List ℕ) (h : length s ≤ max_input) (l p : List ℕ) (ps : List (List ℕ)) (e : split 10 s ≡ l ∷ p ∷ ps) where
   -- what the lines behind the first one print
-  by_first : (f : FirstLine) → first_line l ≡ f → output s ≡ started f.form f.caps (p ∷ ps)
-  by_first f g = output-lines s h ∙ ap of_lines e ∙ lines-first l (p ∷ ps) (omega arith) ∙ ap (λ (x : FirstLine). started x.form x.caps (p ∷ ps)) g
+  by_first : (f : Option Sizes) → first_line l ≡ f → output s ≡ started f (p ∷ ps)
+  by_first f g = output-lines s h ∙ ap of_lines e ∙ lines-first l (p ∷ ps) (omega arith) ∙ ap (λ (x : Option Sizes). started x (p ∷ ps)) g
 
   totalled : (n : ℕ) (caps : List ℕ) → first_line l ≡ given n caps → startable n caps ≡ true → Totalled s
   totalled n caps g start =
@@ -58,28 +57,28 @@ module _ (s : List ℕ) (h : length s ≤ max_input) (l p : List ℕ) (ps : List
         caps = caps;
         sizes = g;
         rows = t.0;
-        printed = by_first (given n caps) g ∙ started_yes n caps (p ∷ ps) start ∙ ap (lines n (opened n (cap_of caps))) a.2 ∙ t.1;
+        printed = by_first (given n caps) g ∙ started_yes (record { n = n; caps = caps }) (p ∷ ps) start ∙ ap (lines n (opened n (cap_of caps))) a.2 ∙ t.1;
         of_list = every_yard n caps start a.0
             (omega (arith, split-few 10 s, ap length e, ap length a.2, length-append a.0 (a.1 ∷ [])));
       }
 
   by-start : (n : ℕ) (caps : List ℕ) → first_line l ≡ given n caps → (b : Bool) → startable n caps ≡ b → (output s ≡ alone) ⊎ Totalled s
   by-start n caps g true start = inr (totalled n caps g start)
-  by-start n caps g false start = inl (by_first (given n caps) g ∙ started_no n caps (p ∷ ps) start)
+  by-start n caps g false start = inl (by_first (given n caps) g ∙ started_no (record { n = n; caps = caps }) (p ∷ ps) start)
 
-  by_form : (k : Form) (caps : List ℕ) → first_line l ≡ record { form = k; caps = caps } → (output s ≡ alone) ⊎ Totalled s
-  by_form (form.Sizes n) caps g = by-start n caps g (startable n caps) refl
-  by_form form.Other caps g = inl (by_first (record { form = form.Other; caps = caps }) g ∙ started-other caps (p ∷ ps))
+  by_sizes : (k : Option Sizes) → first_line l ≡ k → (output s ≡ alone) ⊎ Totalled s
+  by_sizes (Some z) g = by-start z.n z.caps g (startable z.n z.caps) refl
+  by_sizes None g = inl (by_first None g ∙ started-none (p ∷ ps))
 
 by-pieces : (s : List ℕ) → length s ≤ max_input → (ps : List (List ℕ)) → split 10 s ≡ ps → (output s ≡ alone) ⊎ Totalled s
 unfolding of_lines
 by-pieces s h [] e = inl (output-lines s h ∙ ap of_lines e)
 by-pieces s h (l ∷ []) e = inl (output-lines s h ∙ ap of_lines e ∙ lines-alone l)
-by-pieces s h (l ∷ p ∷ ps) e = by_form s h l p ps e (first_line l).form (first_line l).caps refl
+by-pieces s h (l ∷ p ∷ ps) e = by_sizes s h l p ps e (first_line l) refl
 
 pub every_output : EveryOutput
 every_output s = go (dec_lt max_input (length s))
   where
     go : Dec (max_input < length s) → (output s ≡ alone) ⊎ Totalled s
-    go (yes h) = inl (output-long s h)
+    go (yes h) = inl (output_long s h)
     go (no h) = by-pieces s (omega (arith, h)) (split 10 s) refl

@@ -1,5 +1,6 @@
 -- Demand 3 speaks of every yard. Assumes nothing.
 use Prim.Native.Nat.{ℕ, ◌+◌, ◌<◌}
+use Rattle.std.specs.Prelude.{None, Option, Some}
 use mathlib.Core.List.{List, [], ◌∷◌}
 use mathlib.Core.Path.{◌≡◌, subst, sym}
 use native.Mathlib.Nat.{add-zero, zero-add}
@@ -18,12 +19,12 @@ use Rattle.simulation.specs.Yard.{line, max_issues}
 
 module _ (n : ℕ) (caps : ℕ → ℕ) (inside : EachInRange n caps) where
   -- a line
-  line_kept : (k : ℕ) (y : State) → Kept n caps k y → k < 1000000000 → (c : Command) → Kept n caps (k + 1) (line n y c).yard
+  line_kept : (k : ℕ) (y : State) → Kept n caps k y → k < 1000000000 → (c : Option Command) → Kept n caps (k + 1) (line n y c).yard
   unfolding line
-  line_kept k y r h (command.Send i j) = send-kept n caps k y r max_issues i j
-  line_kept k y r h (command.Offer m) = offer-kept n caps k y r inside h m
-  line_kept k y r h (command.Deliver j) = deliver-kept n caps k y r max_issues j
-  line_kept k y r h command.Other = later-kept n caps k y r
+  line_kept k y r h (Some (command.Send i j)) = send-kept n caps k y r max_issues i j
+  line_kept k y r h (Some (command.Offer m)) = offer-kept n caps k y r inside h m
+  line_kept k y r h (Some (command.Deliver j)) = deliver-kept n caps k y r max_issues j
+  line_kept k y r h None = later-kept n caps k y r
 
   -- and all behind it
   lines-kept : (k : ℕ) (y : State) (ls : List (List ℕ)) → Kept n caps k y → k + length ls < 1000000000 → Kept n caps (k + length ls) (after_lines n y ls)

@@ -1,33 +1,28 @@
 -- The loop over the lines: what is printed so far, and the definition on the lines that are left. Assumes nothing.
-use Prim.Native.Nat.{ℕ, ◌+◌, ◌-◌, ◌≤◌, ◌<◌}
-use mathlib.Core.Bool.{cond}
+use Prim.Native.Nat.{ℕ, ◌+◌, ◌≤◌, ◌<◌}
+use mathlib.Core.Bool.{Bool, cond, false, not, true}
 use mathlib.Core.List.{List, [], ◌∷◌, ◌++◌}
 use mathlib.Core.Path.{◌≡◌, refl, sym, ap, ◌∙◌}
-use native.Mathlib.Decide.{dec_lt}
 use native.Mathlib.Nat.{zero-add}
 use native.Mathlib.Omega.{arith}
-use borrow.Author.Tests.{le-ltb, lt-ltb}
-use lib.Dec.{eqb, ltb}
-use lib.ListN.{length, take, drop, length-append, length-drop}
+use lib.Dec.{eqb}
+use lib.ListN.{length, length-append}
 use Rattle.wire.specs.Bytes.{put}
 use Rattle.wire.proofs.Bytes.{put_append}
-use Rattle.wire.proofs.Tests.{cond_no, cond_yes, eq→eqb, ne→neqb}
 use Rattle.text.specs.Pieces.{split}
-use Rattle.text.specs.Before.{before}
-use Rattle.text.proofs.Pieces.{split-found, split-none, split-some}
+use Rattle.text.proofs.Pieces.{split-some, split-total, total}
 use Rattle.commands.specs.Commands.{command}
 use Rattle.counters.specs.Counted.{no_counters}
 use Rattle.counters.specs.declared.Counters.{Counters}
 use Rattle.causality.specs.Demand3.{start}
 use Rattle.world.specs.Stored.{Holds, Standing}
 use Rattle.text.specs.Print.{refusal_row}
-use Rattle.text.specs.Wrote.{WroteWhole}
+use Rattle.text.specs.Wrote.{Wrote, WroteWhole}
 use Rattle.counting.specs.Stands.{Stands}
 use Rattle.counting.specs.State.{State, opened}
 use Rattle.counting.specs.declared.State.{State as StoredState}
 use Rattle.simulation.specs.Stands.{Took}
 use Rattle.simulation.specs.Yard.{AfterLine, line, lines, max_issues, total_row}
-use Rattle.simulation.specs.declared.Taken.{Taken}
 
 -- a line and those behind it, and what stands behind the last line feed
 pub lines_more : (n : ℕ) (z : State) (t : List ℕ) (ps : List (List ℕ)) → 1 ≤ length ps
@@ -40,77 +35,72 @@ pub lines-last : (n : ℕ) (z : State) (t : List ℕ) → lines n z (t ∷ []) �
 unfolding lines
 lines-last n z t = refl
 
--- what is left of the output, with the yard z at the line that begins at `at`
-abbrev left : ℕ → List ℕ → State → ℕ → List ℕ
-left n s z at = lines n z (split 10 (drop at s))
+-- what is left of the output, with the yard z at the text that is left
+abbrev left : ℕ → List ℕ → State → List ℕ
+left n rest z = lines n z (split 10 rest)
 
--- a yard of n nodes over the input s from the line at `from` on: up to `at` its lines are taken, and what they print stands in o up to `pos`
-pub record Running (n : ℕ) (caps : ℕ → ℕ) (s : List ℕ) (from : ℕ) (o₀ : List ℕ) (y : StoredState) (q l o : List ℕ) (at pos : ℕ) : Type 0 where
+-- a piece and the text behind it have the bytes of the whole but one
+pub parted-length : (s p b : List ℕ) → split 10 s ≡ p ∷ split 10 b → length s ≡ length p + 1 + length b
+unfolding total
+parted-length s p b e = omega (arith, split-total 10 s, split-total 10 b, ap total e)
+
+-- a yard of n nodes over the input s: up to `rest` its lines are taken, and what they print stands in o up to `pos`
+pub record Running (n : ℕ) (caps : ℕ → ℕ) (s o₀ : List ℕ) (y : StoredState) (q l o rest : List ℕ) (pos : ℕ) : Type 0 where
   pub yard : State
   pub steps : ℕ
-  pub few : steps ≤ at
+  pub few : steps + length rest ≤ length s
   pub stands : Stands n caps max_issues steps yard y q l
-  pub end : pos + length (left n s yard at) ≡ length (left n s (opened n caps) from)
-  pub bytes : put o pos (left n s yard at) ≡ put o₀ 0 (left n s (opened n caps) from)
+  pub end : pos + length (left n rest yard) ≡ length (left n s (opened n caps))
+  pub bytes : put o pos (left n rest yard) ≡ put o₀ 0 (left n s (opened n caps))
 
-pub running_starts : (n : ℕ) (caps : ℕ → ℕ) (s : List ℕ) (from : ℕ) (o : List ℕ) (y : StoredState) (q l : List ℕ) → Holds n caps max_issues 0 (start n caps) y.world q l
-    → y.counters ≡ no_counters → Running n caps s from o y q l o from 0
-running_starts n caps s from o y q l h e =
+pub running_starts : (n : ℕ) (caps : ℕ → ℕ) (s o : List ℕ) (y : StoredState) (q l : List ℕ) → Holds n caps max_issues 0 (start n caps) y.world q l
+    → y.counters ≡ no_counters → Running n caps s o y q l o s 0
+running_starts n caps s o y q l h e =
     record { yard = opened n caps; steps = 0; few = omega arith; stands = record { world = h; counters = e }; end = zero-add _; bytes = refl }
 
-pub running_standing : (n : ℕ) (caps : ℕ → ℕ) (s : List ℕ) (from : ℕ) (o₀ : List ℕ) (y : StoredState) (q l o : List ℕ)
-    (at pos : ℕ) → Running n caps s from o₀ y q l o at pos
-    → at < 999999999 → Standing max_issues y.world q l
-running_standing n caps s from o₀ y q l o at pos r h =
+pub running_standing : (n : ℕ) (caps : ℕ → ℕ) (s o₀ : List ℕ) (y : StoredState) (q l o rest : List ℕ) (pos : ℕ) → Running n caps s o₀ y q l o rest pos
+    → length s < 999999999 → Standing max_issues y.world q l
+running_standing n caps s o₀ y q l o rest pos r h =
     record { n = n; caps = caps; k = r.steps; world = r.yard.world; more = omega (arith, r.few); holds = r.stands.world }
 
 -- the next line
-module _ (n : ℕ) (caps : ℕ → ℕ) (s : List ℕ) (from : ℕ) (o₀ : List ℕ) (y : StoredState) (q l o : List ℕ) (at pos end : ℕ) (r : Running n caps s from o₀ y q l o at pos)
-    (e : end ≡ at + before 10 (drop at s)) (h : end < length s) where
+module _ (n : ℕ) (caps : ℕ → ℕ) (s o₀ : List ℕ) (y : StoredState) (q l o rest : List ℕ) (pos : ℕ) (r : Running n caps s o₀ y q l o rest pos)
+    (text behind : List ℕ) (e : split 10 rest ≡ text ∷ split 10 behind) where
   abbrev a : AfterLine
-  a = line n r.yard (command (take (end - at) (drop at s)))
+  a = line n r.yard (command text)
 
-  left-more : left n s r.yard at ≡ a.printed ++ left n s a.yard (end + 1)
-  left-more =
-      ap (lines n r.yard) (split-found 10 s at end e h)
-      ∙ lines_more n r.yard (take (end - at) (drop at s)) (split 10 (drop (end + 1) s)) (split-some 10 (drop (end + 1) s))
+  left-more : left n rest r.yard ≡ a.printed ++ left n behind a.yard
+  left-more = ap (lines n r.yard) e ∙ lines_more n r.yard text (split 10 behind) (split-some 10 behind)
 
-  pub running_goes : (t : Taken) (q' l' o' : List ℕ) → Took n caps r.steps a pos o t q' l' o' → Running n caps s from o₀ t.yard q' l' o' (end + 1) t.end
-  running_goes t q' l' o' k =
-      let others : List ℕ = left n s a.yard (end + 1) in
+  pub running_goes : (y' : StoredState) (pos' : ℕ) (q' l' o' : List ℕ) → Took n caps r.steps a pos o y' pos' q' l' o'
+      → Running n caps s o₀ y' q' l' o' behind pos'
+  running_goes y' pos' q' l' o' k =
+      let others : List ℕ = left n behind a.yard in
       record {
         yard = a.yard;
         steps = r.steps + 1;
-        few = omega (arith, r.few);
+        few = omega (arith, r.few, parted-length rest text behind e);
         stands = k.stands;
-        end = omega (arith, r.end, ap length left-more, length-append a.printed others, k.end);
-        bytes = rw (k.bytes, k.end) (sym (put_append o pos a.printed others) ∙ ap (put o pos) (sym left-more) ∙ r.bytes);
+        end = omega (arith, r.end, ap length left-more, length-append a.printed others, k.place);
+        bytes = rw (k.bytes, k.place) (sym (put_append o pos a.printed others) ∙ ap (put o pos) (sym left-more) ∙ r.bytes);
       }
 
+-- the test is turned round
+cond-not : {A : Type 0} (b : Bool) (x y : A) → cond (not b) x y ≡ cond b y x
+cond-not true x y = refl
+cond-not false x y = refl
+
 -- the end of the input
-module _ (n : ℕ) (caps : ℕ → ℕ) (s : List ℕ) (from : ℕ) (o₀ : List ℕ) (y : StoredState) (q l o : List ℕ) (at pos end : ℕ) (r : Running n caps s from o₀ y q l o at pos)
-    (e : end ≡ at + before 10 (drop at s)) (h : end ≡ length s) (inside : at ≤ length s) where
-  -- whether bytes stand behind the last line feed
-  rest_test : cond (eqb (length (drop at s)) 0) [] (refusal_row 17) ≡ cond (ltb at end) (refusal_row 17) []
-  rest_test = go (dec_lt at end)
-    where
-      go : Dec (at < end) → cond (eqb (length (drop at s)) 0) [] (refusal_row 17) ≡ cond (ltb at end) (refusal_row 17) []
-      go (yes p) =
-          cond_no (eqb (length (drop at s)) 0) [] (refusal_row 17)
-          (ne→neqb (length (drop at s)) 0 (λ (z : length (drop at s) ≡ 0). omega (arith, length-drop at s))) ∙ rw (lt-ltb at end p)
-      go (no p) =
-          cond_yes (eqb (length (drop at s)) 0) [] (refusal_row 17) (eq→eqb (length (drop at s)) 0 (omega (arith, length-drop at s)))
-          ∙ rw (le-ltb at end (omega arith))
+module _ (n : ℕ) (caps : ℕ → ℕ) (s o₀ : List ℕ) (y : StoredState) (q l o rest : List ℕ) (pos : ℕ) (r : Running n caps s o₀ y q l o rest pos)
+    (e : split 10 rest ≡ rest ∷ []) where
+  left-last : left n rest r.yard ≡ cond (not (eqb (length rest) 0)) (refusal_row 17) [] ++ total_row y.counters
+  left-last =
+      ap (lines n r.yard) e ∙ lines-last n r.yard rest
+      ∙ ap (λ (x : List ℕ). x ++ total_row r.yard.counters) (sym (cond-not (eqb (length rest) 0) (refusal_row 17) []))
+      ∙ ap (λ (x : Counters). cond (not (eqb (length rest) 0)) (refusal_row 17) [] ++ total_row x) (sym r.stands.counters)
 
-  left-last : (t : Counters) → t ≡ y.counters → left n s r.yard at ≡ cond (ltb at end) (refusal_row 17) [] ++ total_row t
-  left-last t c =
-      ap (lines n r.yard) (split-none 10 s at end e h inside) ∙ lines-last n r.yard (drop at s)
-      ∙ ap (λ (x : List ℕ). x ++ total_row r.yard.counters) rest_test
-      ∙ ap (λ (x : Counters). cond (ltb at end) (refusal_row 17) [] ++ total_row x) (sym (c ∙ r.stands.counters))
-
-  pub running_ends : (t : Counters) → t ≡ y.counters → (m : ℕ) (o' : List ℕ) → m ≡ pos + length (cond (ltb at end) (refusal_row 17) [] ++ total_row t)
-      → o' ≡ put o pos (cond (ltb at end) (refusal_row 17) [] ++ total_row t)
-      → WroteWhole (left n s (opened n caps) from) o₀ m o'
-  running_ends t c m o' em eo =
-      let k = left-last t c in
-      (omega (arith, r.end, ap length k), eo ∙ ap (put o pos) (sym k) ∙ r.bytes)
+  pub running_ends : (b : Bool) → b ≡ not (eqb (length rest) 0) → (m : ℕ) (o' : List ℕ)
+      → Wrote (cond b (refusal_row 17) [] ++ total_row y.counters) pos o m o' → WroteWhole (left n s (opened n caps)) o₀ m o'
+  running_ends b eb m o' w =
+      let k : left n rest r.yard ≡ cond b (refusal_row 17) [] ++ total_row y.counters = rw eb left-last in
+      (omega (arith, r.end, ap length k, w.0), w.1 ∙ ap (put o pos) (sym k) ∙ r.bytes)

@@ -8,8 +8,8 @@ use Rattle.wire.specs.Bytes.{put}
 use Rattle.text.specs.Print.{refusal_row, row}
 use Rattle.text.specs.Wrote.{Wrote}
 use Rattle.text.proofs.Print.{shown, shown-both}
-use Rattle.world.specs.declared.Outcome.{Outcome}
-use Rattle.world.specs.declared.Outcome.TheVariants as outcome
+use Rattle.world.specs.Outcome.{Outcome}
+use Rattle.world.specs.Outcome as outcome
 use Rattle.simulation.specs.Asked.{Small}
 use Rattle.simulation.specs.Yard.{printed_by}
 

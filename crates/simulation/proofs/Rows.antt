@@ -42,8 +42,8 @@ three-numbers l a b c h i j =
     )
 
 -- the line of an issued frame: an issue below 100, and bytes
-pub issue-numbers : (l m a b e : ℕ) → m < 100 → a < 256 → b < 256 → e < 256 → length (row l (m ∷ a ∷ b ∷ e ∷ [])) ≤ 17
-issue-numbers l m a b e h i j k =
+pub issue_numbers : (l m a b e : ℕ) → m < 100 → a < 256 → b < 256 → e < 256 → length (row l (m ∷ a ∷ b ∷ e ∷ [])) ≤ 17
+issue_numbers l m a b e h i j k =
     omega (
       arith,
       length-row-cons l m (a ∷ b ∷ e ∷ []),

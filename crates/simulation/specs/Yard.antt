@@ -1,5 +1,5 @@
 -- The yard (document 01): what its lines do and print, and the output of an input. Printed letters are ASCII: A 65, D 68, N 78, S 83, T 84, X 88.
-use Rattle.std.specs.Prelude.{ℕ, ◌+◌, cond, List, [], ◌∷◌, ◌++◌, eqb, ltb, length, drop}
+use Rattle.std.specs.Prelude.{ℕ, ◌+◌, cond, List, [], ◌∷◌, ◌++◌, Option, None, Some, eqb, ltb, length, drop}
 use Rattle.text.specs.Pieces.{split}
 use Rattle.text.specs.Print.{refusal_row, row}
 use Rattle.frame.specs.Header.{header}
@@ -9,15 +9,14 @@ use Rattle.commands.specs.Commands.{command}
 use Rattle.commands.specs.FirstLine.{first_line}
 use Rattle.commands.specs.declared.Command.{Command}
 use Rattle.commands.specs.declared.Command.TheVariants as command
-use Rattle.commands.specs.declared.Form.{Form}
-use Rattle.commands.specs.declared.Form.TheVariants as form
+use Rattle.commands.specs.declared.Sizes.{Sizes}
 use Rattle.counters.specs.declared.Counters.{Counters}
 use Rattle.counters.specs.Counted.{totals}
 use Rattle.counting.specs.State.{State, opened, state_after}
 use Rattle.world.specs.Steps.{AfterStep, send_step, offer_step, deliver_step, frames}
 use Rattle.world.specs.Start.{cap_of, startable}
-use Rattle.world.specs.declared.Outcome.{Outcome}
-use Rattle.world.specs.declared.Outcome.TheVariants as outcome
+use Rattle.world.specs.Outcome.{Outcome}
+use Rattle.world.specs.Outcome as outcome
 
 -- issues of a yard at most
 abbrev pub max_issues : ℕ
@@ -66,11 +65,11 @@ abbrev pub after_step : State → ℕ → AfterStep → AfterLine
 after_step y x a = record { yard = state_after y.counters a; printed = printed_by x (new_rows y.world a.world) a.outcome }
 
 -- a line of a yard of n nodes: S i j, A m, D j, and 17 for another line
-unfoldable pub line : ℕ → State → Command → AfterLine
-line n y (command.Send i j) = after_step y i (send_step n max_issues y.world i j)
-line n y (command.Offer m) = after_step y m (offer_step y.world m)
-line n y (command.Deliver j) = after_step y j (deliver_step n max_issues y.world j)
-line n y command.Other = record { yard = y; printed = refusal_row 17 }
+unfoldable pub line : ℕ → State → Option Command → AfterLine
+line n y (Some (command.Send i j)) = after_step y i (send_step n max_issues y.world i j)
+line n y (Some (command.Offer m)) = after_step y m (offer_step y.world m)
+line n y (Some (command.Deliver j)) = after_step y j (deliver_step n max_issues y.world j)
+line n y None = record { yard = y; printed = refusal_row 17 }
 
 -- the lines behind the first: the last piece of the input is what stands behind the last line feed, and is another line where it is not empty; then T
 unfoldable pub lines : ℕ → State → List (List ℕ) → List ℕ
@@ -85,15 +84,15 @@ abbrev pub alone : List ℕ
 alone = refusal_row 17
 
 -- n is 2 to 4 and each of its caps in range, or `R 17` alone
-unfoldable pub started : Form → List ℕ → List (List ℕ) → List ℕ
-started (form.Sizes n) caps ls = cond (startable n caps) (lines n (opened n (cap_of caps)) ls) alone
-started form.Other caps ls = alone
+unfoldable pub started : Option Sizes → List (List ℕ) → List ℕ
+started (Some s) ls = cond (startable s.n s.caps) (lines s.n (opened s.n (cap_of s.caps)) ls) alone
+started None ls = alone
 
 -- a first line that is missing, or not ended, is `R 17` alone
 unfoldable pub of_lines : List (List ℕ) → List ℕ
 of_lines [] = alone
 of_lines (l ∷ []) = alone
-of_lines (l ∷ m ∷ ls) = started (first_line l).form (first_line l).caps (m ∷ ls)
+of_lines (l ∷ m ∷ ls) = started (first_line l) (m ∷ ls)
 
 -- what the yard prints for an input; of a longer one, `R 17` alone
 unfoldable pub output : List ℕ → List ℕ

@@ -1,117 +1,77 @@
 //! A line of the yard: its command is a step of the world, which is printed and counted.
-ghost use Rattle.std.specs.Prelude.{◌≡◌, List, ℕ, ◌+◌, ◌-◌, ◌*◌, ◌≤◌, ◌<◌, length, take, drop};
+ghost use Rattle.std.specs.Prelude.{◌≡◌, ℕ, ◌+◌, ◌*◌, ◌≤◌, ◌<◌, length};
 ghost use Rattle.commands.specs.Commands.{command};
-ghost use Rattle.commands.specs.declared.Command.TheVariants as command;
-ghost use Rattle.world.specs.Start.{max_simulated};
-ghost use Rattle.world.specs.Stored.{Standing, StandingRecords, stored_by};
-ghost use Rattle.text.specs.Wrote.{Wrote};
-ghost use Rattle.counting.specs.State.{State as Lists, counted_by};
-ghost use Rattle.counting.specs.Stands.{Few, Stands};
-ghost use Rattle.simulation.specs.Yard.{max_issues, issue_rows, printed_by, line};
-ghost use Rattle.simulation.specs.Asked.{InLog, Logged, Small};
+ghost use Rattle.causality.specs.Demand3.{World as Issued};
+ghost use Rattle.world.specs.Stored.{Holds, Standing};
+ghost use Rattle.world.specs.Told.{told};
+ghost use Rattle.counting.specs.State.{State as Lists};
+ghost use Rattle.counting.specs.Stands.{Stands};
+ghost use Rattle.simulation.specs.Yard.{max_issues, line};
 ghost use Rattle.simulation.specs.Stands.{Room, Took};
+ghost use Rattle.simulation.specs.Commanded.{printed_with, step_of};
 
-use super::{MAX_ISSUES, Taken, print};
+use super::MAX_ISSUES;
+use super::print::{self, Issues};
 use commands::Command;
 use counting::State;
-use world::Stepped;
+use refusal::Refusal;
+use world::{Outcome, World};
 
-// What a step leaves and prints: before it there were `from` issues, of which the last ends at `place`.
-fn conclude(
-    y: State,
-    x: usize,
-    s: Stepped,
-    log: &[u8],
-    place: usize,
-    from: usize,
-    out: &mut [u8],
-    at: usize,
-) -> Taken
-    requires { Few s.outcome × (s.at < max_simulated) × Small x s.outcome × Logged from s.issued place log.now
-        × (at + 20 + 17 * (s.issued - from) ≤ length out.old) }
-    ensures { (result.yard.world ≡ stored_by y.world s) × (result.yard.counters ≡ counted_by y.counters s.outcome)
-        × (result.end ≤ at + 20 + 17 * (s.issued - from))
-        × ((f : List (List ℕ)) → InLog from s.issued place log.now f
-        → Wrote (printed_by x (issue_rows (from + 1) (drop from f)) s.outcome) at out.old result.end out.new) }
+// The number that is printed with what a command leads to: the issue that it offers, or its node.
+fn printed_with(c: Command) -> usize
+    ensures { result ≡ printed_with c }
 {
-    let outcome = s.outcome;
-    let to = s.issued;
-    let end = print::put_outcome(out, at, x, outcome, log, place, from, to);
-    let yard = counting::state_after(y, s);
-    Taken { yard, end }
+    match c {
+        Command::Send { from, .. } => from,
+        Command::Offer(m) => m,
+        Command::Deliver(j) => j,
+    }
 }
 
-// S: a send.
-fn send(y: State, i: usize, j: usize, log: &mut [u8], out: &mut [u8], at: usize) -> Taken
-    requires { StandingRecords max_issues y.world log.old × Room at y out.old }
-    ensures { (result.end + 17 * y.world.issued ≤ at + 20 + 17 * result.yard.world.issued)
-        × ((n : ℕ) (caps : ℕ → ℕ) (k : ℕ) (z : Lists) (q : List ℕ) → k + 1 < 1000000000 → Stands n caps max_issues k z y q log.old
-        → Took n caps k (line n z (command.Send i j)) at out.old result q log.new out.new) }
+// The step of a command.
+fn step(w: &mut World, c: Command, queues: &mut [u8], log: &mut [u8]) -> Result<Outcome, Refusal>
+    requires { Standing max_issues w.old queues.old log.old }
+    ensures { (n : ℕ) (caps : ℕ → ℕ) (k : ℕ) (v : Issued) → k + 1 < 1000000000 → Holds n caps max_issues k v w.old queues.old log.old
+        → (told result ≡ (step_of n v c).outcome) × Holds n caps max_issues (k + 1) (step_of n v c).world w.new queues.new log.new }
 {
-    let from = y.world.issued;
-    let place = y.world.end;
-    let w = y.world;
-    let s = world::send::send(w, MAX_ISSUES, i, j, log);
-    conclude(y, i, s, log, place, from, out, at)
+    match c {
+        Command::Send { from, to } => w.send(MAX_ISSUES, from, to, log),
+        Command::Offer(m) => w.offer(MAX_ISSUES, m, queues, log),
+        Command::Deliver(j) => w.deliver(MAX_ISSUES, j, queues, log),
+    }
 }
 
-// A: an offer.
-fn offer(y: State, m: usize, queues: &mut [u8], log: &[u8], out: &mut [u8], at: usize) -> Taken
-    requires { (m < 1000) × Standing max_issues y.world queues.old log.now × Room at y out.old }
-    ensures { (result.end + 17 * y.world.issued ≤ at + 20 + 17 * result.yard.world.issued)
-        × ((n : ℕ) (caps : ℕ → ℕ) (k : ℕ) (z : Lists) → k + 1 < 1000000000 → Stands n caps max_issues k z y queues.old log.now
-        → Took n caps k (line n z (command.Offer m)) at out.old result queues.new log.now out.new) }
-{
-    let from = y.world.issued;
-    let place = y.world.end;
-    let w = y.world;
-    let s = world::offer::offer(w, MAX_ISSUES, m, queues, log);
-    conclude(y, m, s, log, place, from, out, at)
-}
-
-// D: a deliver.
-fn deliver(
-    y: State,
-    j: usize,
-    queues: &mut [u8],
-    log: &mut [u8],
-    out: &mut [u8],
-    at: usize,
-) -> Taken
-    requires { (j < 1000) × Standing max_issues y.world queues.old log.old × Room at y out.old }
-    ensures { (result.end + 17 * y.world.issued ≤ at + 20 + 17 * result.yard.world.issued)
-        × ((n : ℕ) (caps : ℕ → ℕ) (k : ℕ) (z : Lists) → k + 1 < 1000000000 → Stands n caps max_issues k z y queues.old log.old
-        → Took n caps k (line n z (command.Deliver j)) at out.old result queues.new log.new out.new) }
-{
-    let from = y.world.issued;
-    let place = y.world.end;
-    let w = y.world;
-    let s = world::deliver::deliver(w, MAX_ISSUES, j, queues, log);
-    conclude(y, j, s, log, place, from, out, at)
-}
-
-/// A line, which has its line feed no more: steps the world, counts, and prints from `at` on.
+/// A line, which has its line feed no more: steps the world, counts, and prints from `at` on. Gives the place after what it prints.
 pub fn take(
-    y: State,
+    y: &mut State,
     text: &[u8],
     queues: &mut [u8],
     log: &mut [u8],
     out: &mut [u8],
     at: usize,
-) -> Taken
-    requires { Standing max_issues y.world queues.old log.old × Room at y out.old }
-    ensures { (result.end + 17 * y.world.issued ≤ at + 5 * (length text.now + 1) + 17 * result.yard.world.issued)
-        × ((n : ℕ) (caps : ℕ → ℕ) (k : ℕ) (z : Lists) → k + 1 < 1000000000 → Stands n caps max_issues k z y queues.old log.old
-        → Took n caps k (line n z (command text.now)) at out.old result queues.new log.new out.new) }
+) -> usize
+    requires { Standing max_issues y.old.world queues.old log.old × Room at y.old out.old }
+    ensures { (result + 17 * y.old.world.issued ≤ at + 5 * (length text.now + 1) + 17 * y.new.world.issued)
+        × ((n : ℕ) (caps : ℕ → ℕ) (k : ℕ) (z : Lists) → k + 1 < 1000000000 → Stands n caps max_issues k z y.old queues.old log.old
+        → Took n caps k (line n z (command text.now)) at out.old y.new result queues.new log.new out.new) }
 {
-    let c = commands::parse_command(text);
-    match c {
-        Command::Send { from, to } => send(y, from, to, log, out, at),
-        Command::Offer(m) => offer(y, m, queues, log, out, at),
-        Command::Deliver(j) => deliver(y, j, queues, log, out, at),
-        Command::Other => {
-            let end = text::put_refusal(out, at, 17);
-            Taken { yard: y, end }
-        }
-    }
+    let Some(c) = commands::parse_command(text) else {
+        return text::put_refusal(out, at, Refusal::Line);
+    };
+    let World {
+        issued: from,
+        end: place,
+        ..
+    } = y.world;
+    let step = step(&mut y.world, c, queues, log);
+    counting::count(&mut y.counters, step);
+    let to = y.world.issued;
+    print::put_outcome(
+        out,
+        at,
+        printed_with(c),
+        step,
+        log,
+        Issues { from, to, place },
+    )
 }

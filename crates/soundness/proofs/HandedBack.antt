@@ -23,13 +23,12 @@ use Rattle.node.proofs.Cases.{deliver-cases, offer-cases, send-cases}
 use Rattle.node.proofs.Delivering.{deliver-ready}
 use Rattle.node.proofs.Offering.{Offerable, offerable}
 use Rattle.node.proofs.Sending.{Sendable, sendable}
-use Rattle.node.specs.Answers.{AfterDeliver, AfterOffer, AfterSend, set_up_number}
+use Rattle.node.specs.Answers.{AfterDeliver, AfterOffer, AfterSend, set_up_number, SetUp}
 use Rattle.node.specs.Calls.{deliver_call, offer_call, send_call}
 use Rattle.node.specs.Record.{node_at, broken_record, node_of}
 use Rattle.node.specs.SetUp.{fresh_record, set_up}
 use Rattle.node.specs.declared.Node.{Node as Record}
-use Rattle.node.specs.declared.SetUp.{SetUp}
-use Rattle.node.specs.declared.SetUpAnswer.TheVariants.{Refused, Ready}
+use Rattle.node.specs.SetUpAnswer.{Refused, Ready}
 use Rattle.protocol.proofs.Lists.{at_none, each_snoc, length-snoc}
 use Rattle.protocol.proofs.Origins.{Apart, apart_snoc}
 use Rattle.protocol.proofs.Runs.{count-zero}

@@ -5,11 +5,11 @@ use native.Mathlib.Omega.{arith}
 use Rattle.node.proofs.Told.{DeliverTold, SendTold, deliver-told, send-told}
 use Rattle.node.specs.Answers.{AfterDeliver, AfterSend, deliver_bytes, send_bytes}
 use Rattle.node.specs.Calls.{deliver_call, send_call}
-use Rattle.node.specs.declared.DeliverAnswer.{DeliverAnswer}
-use Rattle.node.specs.declared.DeliverAnswer.TheVariants as deliver_answer
+use Rattle.node.specs.DeliverAnswer.{DeliverAnswer}
+use Rattle.node.specs.DeliverAnswer as deliver_answer
 use Rattle.node.specs.declared.Node.{Node as Record}
-use Rattle.node.specs.declared.SendAnswer.{SendAnswer}
-use Rattle.node.specs.declared.SendAnswer.TheVariants as send_answer
+use Rattle.node.specs.SendAnswer.{SendAnswer}
+use Rattle.node.specs.SendAnswer as send_answer
 use Rattle.soundness.specs.OutputSizes.{OutputSizes}
 
 -- by the answer: a refusal counts none

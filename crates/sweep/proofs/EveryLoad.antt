@@ -1,5 +1,6 @@
 -- Demand 3 speaks of every load. Assumes nothing.
 use Prim.Native.Nat.{ℕ, zero, suc, ◌+◌, ◌<◌}
+use Rattle.std.specs.Prelude.{None, Option, Some}
 use mathlib.Core.Path.{◌≡◌, subst, sym}
 use native.Mathlib.Nat.{add-zero, zero-add}
 use native.Mathlib.Omega.{arith}
@@ -16,12 +17,12 @@ use Rattle.sweep.specs.Load.{after_draw, after_draws, made, max_issues, run_of}
 
 module _ (n : ℕ) (caps : ℕ → ℕ) (inside : EachInRange n caps) where
   -- a draw
-  made_kept : (k : ℕ) (y : State) → Kept n caps k y → k < 1000000000 → (d : Draw) → Kept n caps (k + 1) (made n y d)
+  made_kept : (k : ℕ) (y : State) → Kept n caps k y → k < 1000000000 → (d : Option Draw) → Kept n caps (k + 1) (made n y d)
   unfolding made
-  made_kept k y r h (draw.Send i j) = send-kept n caps k y r max_issues i j
-  made_kept k y r h (draw.Offer m) = offer-kept n caps k y r inside h m
-  made_kept k y r h (draw.Deliver j) = deliver-kept n caps k y r max_issues j
-  made_kept k y r h draw.Nothing = later-kept n caps k y r
+  made_kept k y r h (Some (draw.Send i j)) = send-kept n caps k y r max_issues i j
+  made_kept k y r h (Some (draw.Offer m)) = offer-kept n caps k y r inside h m
+  made_kept k y r h (Some (draw.Deliver j)) = deliver-kept n caps k y r max_issues j
+  made_kept k y r h None = later-kept n caps k y r
 
   -- and all behind it
   draws_kept : (k : ℕ) (y : State) (x draws : ℕ) → Kept n caps k y → k + draws < 1000000000 → Kept n caps (k + draws) (after_draws n y x draws)

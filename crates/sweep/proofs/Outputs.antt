@@ -1,5 +1,6 @@
 -- What is printed for a request by its test, and that a table is never taken for a refusal. Assumes nothing.
 use Prim.Native.Nat.{ℕ, suc, ◌+◌, ◌-◌, ◌*◌, ◌≤◌}
+use Rattle.std.specs.Prelude.{None, Option, Some}
 use mathlib.Core.Bool.{false, true}
 use mathlib.Core.List.{List}
 use mathlib.Core.Path.{◌≡◌, ap, refl, sym, ◌∙◌}
@@ -12,8 +13,7 @@ use Rattle.text.proofs.Print.{decimal-one}
 use Rattle.request.proofs.Laws.{long-refused}
 use Rattle.request.specs.Refusal18.{refused18, wrong}
 use Rattle.request.specs.Request.{request}
-use Rattle.request.specs.declared.Request.{Request}
-use Rattle.request.specs.declared.Request.TheVariants as request
+use Rattle.request.specs.declared.Load.{Load}
 use Rattle.sweep.specs.Load.{answered, cap_rows, output, printed, refused, table, tabled}
 use Rattle.sweep.specs.Run.{FirstBytes}
 use Rattle.sweep.proofs.Tables.{last-least}
@@ -21,15 +21,15 @@ use Rattle.sweep.proofs.Tables.{last-least}
 -- ---- by the test
 
 -- a request that is refused
-pub answered-refused : (r : Request) → wrong r ≡ true → answered r ≡ refused 18
+pub answered-refused : (r : Option Load) → wrong r ≡ true → answered r ≡ refused 18
 unfolding answered wrong
-answered-refused (request.Load n seed draws) e = rw e
-answered-refused request.Other e = refl
+answered-refused (Some load) e = rw e
+answered-refused None e = refl
 
 -- one that is not
-pub answered-table : (r : Request) (n seed draws : ℕ) → r ≡ request.Load n seed draws → wrong r ≡ false → answered r ≡ tabled n seed draws
+pub answered-table : (r : Option Load) (load : Load) → r ≡ Some load → wrong r ≡ false → answered r ≡ tabled load.n load.seed load.draws
 unfolding answered wrong
-answered-table r n seed draws e h = ap answered e ∙ rw (rw e at h)
+answered-table r load e h = ap answered e ∙ rw (rw e at h)
 
 -- ---- a table begins with a digit, and a refusal with a letter
 first_digit : (n seed draws : ℕ) → 2 ≤ n → n ≤ 4 → get_or (table n seed draws) 0 0 ≡ 48 + n

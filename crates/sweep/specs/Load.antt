@@ -1,10 +1,9 @@
 -- The load (document 02): the same draws run once for each cap, and the table of what they counted.
-use Rattle.std.specs.Prelude.{ℕ, zero, suc, ◌+◌, ◌-◌, ◌*◌, cond, List, [], ◌++◌, length}
+use Rattle.std.specs.Prelude.{ℕ, zero, suc, ◌+◌, ◌-◌, ◌*◌, cond, List, [], ◌++◌, Option, None, Some, length}
 use Rattle.text.specs.Print.{number_row, refusal_row}
 use Rattle.request.specs.Request.{request}
 use Rattle.request.specs.Refusal18.{out_of_range}
-use Rattle.request.specs.declared.Request.{Request}
-use Rattle.request.specs.declared.Request.TheVariants as request
+use Rattle.request.specs.declared.Load.{Load}
 use Rattle.counters.specs.Counted.{totals}
 use Rattle.xorshift.specs.Xorshift.{next}
 use Rattle.draws.specs.Draws.{step_of}
@@ -20,11 +19,11 @@ max_issues = 180
 -- ---- One run
 
 -- what a draw asks for, made among n nodes: a step of the yard, with the load's limit; a refused one does nothing
-unfoldable pub made : ℕ → State → Draw → State
-made n y (draw.Send i j) = state_after y.counters (send_step n max_issues y.world i j)
-made n y (draw.Offer m) = state_after y.counters (offer_step y.world m)
-made n y (draw.Deliver j) = state_after y.counters (deliver_step n max_issues y.world j)
-made n y draw.Nothing = y
+unfoldable pub made : ℕ → State → Option Draw → State
+made n y (Some (draw.Send i j)) = state_after y.counters (send_step n max_issues y.world i j)
+made n y (Some (draw.Offer m)) = state_after y.counters (offer_step y.world m)
+made n y (Some (draw.Deliver j)) = state_after y.counters (deliver_step n max_issues y.world j)
+made n y None = y
 
 -- the state after the draw v, the issues so far being those of the world's log
 abbrev pub after_draw : ℕ → State → ℕ → State
@@ -67,9 +66,9 @@ load_number (refused k) = k
 load_number (tabled n seed draws) = 0
 
 -- what a request is answered with: 18 where a number is out of range or the line has another form, before the first draw
-unfoldable pub answered : Request → Answer
-answered (request.Load n seed draws) = cond (out_of_range n seed draws) (refused 18) (tabled n seed draws)
-answered request.Other = refused 18
+unfoldable pub answered : Option Load → Answer
+answered (Some r) = cond (out_of_range r.n r.seed r.draws) (refused 18) (tabled r.n r.seed r.draws)
+answered None = refused 18
 
 -- what is printed for an answer: the refusal's line alone, or the table
 abbrev pub printed : Answer → List ℕ

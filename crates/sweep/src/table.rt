@@ -21,9 +21,8 @@ fn run_cap(n: usize, cap: usize, seed: u32, draws: usize, log: &mut [u8]) -> Cou
     requires { (2 ≤ n) × (n ≤ 4) × (n ≤ cap) × (cap ≤ n * n) × (draws ≤ 400) × (length log.old ≡ log_size max_issues) }
     ensures { result ≡ (run_of n cap seed draws).counters }
 {
-    let caps = [cap; world::MAX_SIMULATED];
     let mut queues = [0u8; QUEUES_SIZE];
-    let w = world::start::fresh(n, caps);
+    let w = world::start::fresh(n, [cap; world::MAX_SIMULATED]);
     draw::run_draws(w, seed, draws, &mut queues, log)
 }
 
@@ -32,8 +31,7 @@ fn put_cap(out: &mut [u8], at: usize, cap: usize, t: Counters) -> usize
     requires { (cap < 100) × (at + 58 ≤ length out.old) }
     ensures { (result ≤ at + 58) × Wrote (number_row cap (totals t)) at out.old result out.new }
 {
-    let values = counters::totals(t);
-    text::put_numbers(out, at, cap as u32, &values)
+    text::put_numbers(out, at, cap as u32, &t.totals())
 }
 
 /// Writes the table of n nodes, this seed and so many draws to the front of the output, and gives how many bytes it has.
@@ -42,13 +40,11 @@ pub fn put_table(out: &mut [u8], n: usize, seed: u32, draws: usize) -> usize
     ensures { (result ≤ output_size) × WroteWhole (table n seed draws) out.old result out.new }
 {
     let mut log = [0u8; LOG_SIZE];
+    let mut at = 0;
     let last = n * n;
-    let mut at: usize = 0;
-    let mut cap = n;
-    while cap <= last {
+    for cap in n..=last {
         let t = run_cap(n, cap, seed, draws, &mut log);
         at = put_cap(out, at, cap, t);
-        cap += 1;
     }
     at
 }

@@ -1,14 +1,17 @@
 -- Laws of pieces: the bytes before the first c, and the pieces of a text at a place that a search found. Assumes nothing.
 use Prim.Native.Nat.{◌+◌, ◌-◌, ◌<◌, ◌≤◌, suc, ℕ}
+use Rattle.std.specs.Prelude.{None, Some, position}
+use Rattle.std.specs.List.{position_or_len}
+use Rattle.std.proofs.lemmas.List.Recursion.{is_position_or_len}
 use mathlib.Core.List.{List, [], ◌∷◌}
-use mathlib.Core.Path.{◌∙◌, ◌≡◌, refl}
-use native.Mathlib.Nat.{sub-zero}
+use mathlib.Core.Path.{◌∙◌, ◌≡◌, refl, sym}
 use native.Mathlib.Omega.{arith}
-use native.Mathlib.Decide.{ℕ_discrete}
-use lib.Dec.{eqb}
-use lib.ListN.{drop, get_or, length, length-drop, take}
+use native.Mathlib.Decide.{dec_lt, ℕ_discrete}
+use borrow.Author.Tests.{le-ltb, lt-ltb}
+use mathlib.Core.Bool.{cond}
+use lib.Dec.{eqb, ltb}
+use lib.ListN.{drop, length, length-drop, take}
 use lib.Seq.{drop-drop, take_all}
-use Rattle.wire.proofs.Bytes.{rest, rest_end}
 use Rattle.wire.proofs.Tests.{cond_elim, cond_no, cond_yes, eq→eqb, ne→neqb}
 use Rattle.text.specs.Pieces.{grown, split}
 use Rattle.text.specs.Before.{before}
@@ -26,15 +29,49 @@ pub before-later : (c b : ℕ) (s : List ℕ) → (b ≡ c → ⊥) → before c
 unfolding before
 before-later c b s e = cond_no (eqb b c) 0 (suc (before c s)) (ne→neqb b c e)
 
--- one place of a search: c stands at i, another byte stands there, or the text ends
-pub search-found : (c : ℕ) (s : List ℕ) (i : ℕ) → i < length s → get_or s i 0 ≡ c → before c (drop i s) ≡ 0
-search-found c s i h e = rw (rest s i h) (before_here c (get_or s i 0) (drop (i + 1) s) e)
+-- they are those before the first place at which c stands
+before_is : (c : ℕ) (s : List ℕ) → before c s ≡ position_or_len (λ (b : ℕ). eqb b c) s
+unfolding before
+before_is c s = is_position_or_len (before c) (λ (b : ℕ). eqb b c) refl (λ b t. grind arith) s
 
-pub search_goes : (c : ℕ) (s : List ℕ) (i : ℕ) → i < length s → (get_or s i 0 ≡ c → ⊥) → i + before c (drop i s) ≡ i + 1 + before c (drop (i + 1) s)
-search_goes c s i h e = rw (rest s i h, before-later c (get_or s i 0) (drop (i + 1) s) e) (omega arith)
+-- there are no more than all
+before_few : (c : ℕ) (s : List ℕ) → before c s ≤ length s
+unfolding before
+before_few c [] = omega arith
+before_few c (b ∷ s) =
+    cond_elim (λ (k : ℕ). k ≤ suc (length s)) (eqb b c) 0 (suc (before c s)) (λ t. omega arith) (λ t. omega (arith, before_few c s))
 
-pub search-ends : (c : ℕ) (s : List ℕ) (i : ℕ) → length s ≤ i → i ≤ length s → before c (drop i s) ≡ 0
-search-ends c s i h l = rw (rest_end s i h l) (before-nil c)
+-- what a search finds: a place of c, and none
+first-some : (c : ℕ) (s : List ℕ) (k : ℕ) → position (λ (b : ℕ). eqb b c) s ≡ Some k → (before c s ≡ k) × (k < length s)
+first-some c s k e = go (dec_lt (before c s) (length s)) (rw (before_is c s) e)
+  where
+    go : Dec (before c s < length s) → cond (ltb (before c s) (length s)) (Some (before c s)) None ≡ Some k → (before c s ≡ k) × (k < length s)
+    go (yes l) h =
+        let t = lt-ltb (before c s) (length s) l in
+        let w : before c s ≡ k = cc in
+        (w, omega arith)
+    go (no l) h = let t = le-ltb (before c s) (length s) (omega arith) in let w : ⊥ = cc in absurd w
+
+first-none : (c : ℕ) (s : List ℕ) → position (λ (b : ℕ). eqb b c) s ≡ None → before c s ≡ length s
+first-none c s e = go (dec_lt (before c s) (length s)) (rw (before_is c s) e)
+  where
+    go : Dec (before c s < length s) → cond (ltb (before c s) (length s)) (Some (before c s)) None ≡ None → before c s ≡ length s
+    go (yes l) h = let t = lt-ltb (before c s) (length s) l in let w : ⊥ = cc in absurd w
+    go (no l) h = omega (arith, before_few c s)
+
+-- the same in the bytes from a place on
+pub rest_all : (s : List ℕ) (from : ℕ) → take (length s - from) (drop from s) ≡ drop from s
+rest_all s from = take_all (length s - from) (drop from s) (rw length-drop (omega arith))
+
+pub found_some : (c : ℕ) (s : List ℕ) (from k : ℕ) → from ≤ length s
+    → Some k ≡ position (λ (b : ℕ). eqb b c) (take (length s - from) (drop from s)) → (from + k ≡ from + before c (drop from s)) × (from + k ≤ length s)
+found_some c s from k h e =
+    let f = first-some c (drop from s) k (sym (rw (rest_all s from) at e)) in
+    (omega (arith, f.0), omega (arith, f.1, length-drop from s))
+
+pub found_none : (c : ℕ) (s : List ℕ) (from : ℕ) → from ≤ length s
+    → None ≡ position (λ (b : ℕ). eqb b c) (take (length s - from) (drop from s)) → (length s ≡ from + before c (drop from s)) × (length s ≤ length s)
+found_none c s from h e = (omega (arith, first-none c (drop from s) (sym (rw (rest_all s from) at e)), length-drop from s), omega arith)
 
 -- the pieces of a text that starts with c, and of one that starts with another byte
 split-same : (c b : ℕ) (s : List ℕ) → b ≡ c → split c (b ∷ s) ≡ [] ∷ split c s
@@ -87,13 +124,6 @@ split-found c s at z e h =
 pub split-none : (c : ℕ) (s : List ℕ) (at z : ℕ) → z ≡ at + before c (drop at s) → z ≡ length s → at ≤ length s → split c (drop at s) ≡ drop at s ∷ []
 split-none c s at z e h l = split-whole c (drop at s) (rw length-drop (omega arith))
 
--- where it stands nowhere, the last piece goes up to z
-pub split-last : (c : ℕ) (s : List ℕ) (at z : ℕ) → z ≡ at + before c (drop at s) → z ≡ length s → at ≤ length s
-    → split c (drop at s) ≡ take (z - at) (drop at s) ∷ []
-split-last c s at z e h l =
-    let whole : take (z - at) (drop at s) ≡ drop at s = take_all (z - at) (drop at s) (rw length-drop (omega arith)) in
-    split-none c s at z e h l ∙ rw whole
-
 -- there is always a piece
 pub split-some : (c : ℕ) (s : List ℕ) → 1 ≤ length (split c s)
 unfolding split
@@ -101,32 +131,18 @@ split-some c [] = omega arith
 split-some c (b ∷ s) =
     cond_elim (λ (ps : List (List ℕ)). 1 ≤ length ps) (eqb b c) ([] ∷ split c s) (grown b (split c s)) (λ t. omega arith) (λ t. grown-some b (split c s))
 
--- what one search after another finds from the start on: the text is one piece, or its first piece goes up to place a
-module _ (c : ℕ) (s : List ℕ) (a : ℕ) (first : a ≡ 0 + before c (drop 0 s)) where
-  pub one_piece : a ≡ length s → split c s ≡ s ∷ []
-  one_piece h = split-none c s 0 a first h (omega arith)
+-- a text is one piece, or it has two or more
+pub split-elim : (P : List (List ℕ) → Type 0) (c : ℕ) (s : List ℕ) → P (s ∷ [])
+    → ((p q : List ℕ) (ps : List (List ℕ)) → split c s ≡ p ∷ q ∷ ps → P (p ∷ q ∷ ps)) → P (split c s)
+split-elim P c s one more = go (dec_lt (before c s) (length s))
+  where
+    two : (p : List ℕ) (ps : List (List ℕ)) → 1 ≤ length ps → split c s ≡ p ∷ ps → P (split c s)
+    two p [] h e = absurd (omega arith)
+    two p (q ∷ ps) h e = rw e (more p q ps e)
 
-  pub first_piece : a < length s → split c s ≡ take a s ∷ split c (drop (a + 1) s)
-  first_piece h = split-found c s 0 a first h ∙ rw sub-zero
-
--- it is two pieces, or the second one goes up to place b
-module _ (c : ℕ) (s : List ℕ) (a b : ℕ) (first : a ≡ 0 + before c (drop 0 s)) (more : a < length s) (second : b ≡ a + 1 + before c (drop (a + 1) s)) where
-  pub two-pieces : b ≡ length s → split c s ≡ take a s ∷ take (b - (a + 1)) (drop (a + 1) s) ∷ []
-  two-pieces h = first_piece c s a first more ∙ rw (split-last c s (a + 1) b second h (omega arith))
-
-  second_piece : b < length s → split c s ≡ take a s ∷ take (b - (a + 1)) (drop (a + 1) s) ∷ split c (drop (b + 1) s)
-  second_piece h = first_piece c s a first more ∙ rw (split-found c s (a + 1) b second h)
-
--- it is three pieces, or the third one goes up to place e
-module _ (c : ℕ) (s : List ℕ) (a b e : ℕ) (first : a ≡ 0 + before c (drop 0 s)) (more : a < length s) (second : b ≡ a + 1 + before c (drop (a + 1) s))
-    (again : b < length s) (third : e ≡ b + 1 + before c (drop (b + 1) s)) where
-  pub three-pieces : e ≡ length s
-      → split c s ≡ take a s ∷ take (b - (a + 1)) (drop (a + 1) s) ∷ take (e - (b + 1)) (drop (b + 1) s) ∷ []
-  three-pieces h = second_piece c s a b first more second again ∙ rw (split-last c s (b + 1) e third h (omega arith))
-
-  pub third_piece : e < length s
-      → split c s ≡ take a s ∷ take (b - (a + 1)) (drop (a + 1) s) ∷ take (e - (b + 1)) (drop (b + 1) s) ∷ split c (drop (e + 1) s)
-  third_piece h = second_piece c s a b first more second again ∙ rw (split-found c s (b + 1) e third h)
+    go : Dec (before c s < length s) → P (split c s)
+    go (yes l) = two (take (before c s) s) (split c (drop (before c s + 1) s)) (split-some c (drop (before c s + 1) s)) (split-here c s l)
+    go (no l) = rw (split-whole c s (omega (arith, before_few c s))) one
 
 -- the bytes of the pieces, with one behind each
 unfoldable pub total : List (List ℕ) → ℕ
@@ -155,3 +171,12 @@ length-total (p ∷ ps) = omega (arith, length-total ps)
 
 pub split-few : (c : ℕ) (s : List ℕ) → length (split c s) ≤ length s + 1
 split-few c s = omega (arith, split-total c s, length-total (split c s))
+
+-- the pieces of a text in which a search finds c, and of one in which it does not
+pub split_at : (c : ℕ) (s : List ℕ) (k : ℕ) → Some k ≡ position (λ (b : ℕ). eqb b c) s → split c s ≡ take k s ∷ split c (drop (k + 1) s)
+split_at c s k e = let f = first-some c s k (sym e) in rw (← f.0) (split-here c s (omega (arith, f.0, f.1)))
+
+pub split_never : (c : ℕ) (s : List ℕ) → None ≡ position (λ (b : ℕ). eqb b c) s → split c s ≡ s ∷ []
+split_never c s e = split-whole c s (first-none c s (sym e))
+
+pub ruleset parted = (split_at, split_never, rest_all)

@@ -1,5 +1,6 @@
 -- Laws of printed numbers and lines. Assumes nothing.
 use Prim.Native.Nat.{◌%◌, ◌*◌, ◌+◌, ◌-◌, ◌/◌, ◌<◌, ◌^◌, ◌≤◌, suc, zero, ℕ}
+use Rattle.std.specs.Prelude.{Result, Ok, Err, Some}
 use mathlib.Core.List.{List, [], ◌++◌, ◌∷◌, append_assoc}
 use mathlib.Core.Path.{◌∙◌, ◌≡◌, ap, ap₂, refl, subst, sym}
 use native.Mathlib.Decide.{dec_lt}
@@ -10,12 +11,10 @@ use lib.ListN.{drop, get_or, length, length-append, length-set, set}
 use Rattle.wire.specs.Bytes.{put}
 use Rattle.wire.proofs.Bytes.{length-put, put_append, rest, rest_end}
 use Rattle.text.specs.Fields.{continued, value}
-use Rattle.text.specs.Output.{Fits, after_run, print_into}
+use Rattle.text.specs.Output.{Fits, after_run, print_into, too_short}
 use Rattle.text.specs.Print.{decimal, digits, line_end, number_row, row, spaced}
 use Rattle.text.specs.Wrote.{Wrote, WroteWhole}
-use Rattle.text.specs.declared.Ran.{Ran}
-use Rattle.text.specs.declared.Ran.TheVariants as ran
-use Rattle.text.specs.declared.Number.TheVariants.{Is}
+use Rattle.text.specs.declared.TooShort.{TooShort}
 use Rattle.text.proofs.Fields.{continued_append, digit_is, value-whole}
 
 -- a number of one digit, and one of more
@@ -68,15 +67,15 @@ digits-few (suc j) (suc k) v p h = go (dec_lt v 10) (λ q. digits-few j k (v / 1
         rw (digits_more j v m, length-append) (omega arith)
 
 -- the digits of a number are read back as it
-last_digit : (u d w : ℕ) → d < 10 → 10 * u + d ≡ w → continued u ((48 + d) ∷ []) ≡ Is w
+last_digit : (u d w : ℕ) → d < 10 → 10 * u + d ≡ w → continued u ((48 + d) ∷ []) ≡ Some w
 unfolding continued
 last_digit u d w l e = let q : 10 * u + (48 + d - 48) ≡ w = omega arith in rw (digit_is d l, q)
 
-digits-read : (k v : ℕ) → 1 ≤ k → v < 10 ^ k → continued 0 (digits k v) ≡ Is v
+digits-read : (k v : ℕ) → 1 ≤ k → v < 10 ^ k → continued 0 (digits k v) ≡ Some v
 digits-read zero v p h = absurd (omega arith)
 digits-read (suc k) v p h = go (dec_lt v 10) (λ q. digits-read k (v / 10) q (part-below k v h))
   where
-    go : Dec (v < 10) → (1 ≤ k → continued 0 (digits k (v / 10)) ≡ Is (v / 10)) → continued 0 (digits (suc k) v) ≡ Is v
+    go : Dec (v < 10) → (1 ≤ k → continued 0 (digits k (v / 10)) ≡ Some (v / 10)) → continued 0 (digits (suc k) v) ≡ Some v
     go (yes l) more = rw (digits-one k v l) (last_digit 0 v v l (omega arith))
     go (no l) more =
         let m : 10 ≤ v = omega arith in
@@ -101,7 +100,7 @@ pub decimal-few : (k v : ℕ) → 1 ≤ k → v < 10 ^ k → length (decimal v) 
 unfolding decimal
 decimal-few k v p h = digits-few 10 k v p h
 
-pub decimal-read : (k v : ℕ) → 1 ≤ k → k ≤ 10 → v < 10 ^ k → value k (decimal v) ≡ Is v
+pub decimal-read : (k v : ℕ) → 1 ≤ k → k ≤ 10 → v < 10 ^ k → value k (decimal v) ≡ Some v
 unfolding decimal
 decimal-read k v p m h =
     let w : 10 ^ k ≤ 10 ^ 10 = pow-le-pow_right {n = 10} (omega arith) {i = k} {j = 10} m in
@@ -111,11 +110,7 @@ decimal-read k v p m h =
 pub decimal-longer : (v : ℕ) → 10 ≤ v → v < 10000000000 → length (decimal v) ≡ length (decimal (v / 10)) + 1
 decimal-longer v h l = ap length (decimal-more v h l) ∙ length-append (decimal (v / 10)) ((48 + v % 10) ∷ [])
 
--- a number of one digit written, and the last digit of one with more written behind the others
-pub writes_one : (v at : ℕ) (o : List ℕ) → v < 10 → (at + 1 ≡ at + length (decimal v)) × (set o at (48 + v) ≡ put o at (decimal v))
-unfolding put
-writes_one v at o h = (rw (decimal-one v h), rw (decimal-one v h))
-
+-- the last digit of a number with more than one, written behind the others
 pub writes_more : (v at r : ℕ) (o p : List ℕ) → 10 ≤ v → v < 10000000000 → r ≡ at + length (decimal (v / 10)) → p ≡ put o at (decimal (v / 10))
     → (r + 1 ≡ at + length (decimal v)) × (set p r (48 + v % 10) ≡ put o at (decimal v))
 unfolding put
@@ -220,16 +215,23 @@ shown-both p q at r s o o' o'' l b m d = (omega (arith, length-append p q), rw (
 
 -- what a run that prints leaves: of an output that is too short, and of one that is not
 module _ (size : ℕ) (p o : List ℕ) where
-  pub run_short : length o < size → after_run ran.TooShort o ≡ print_into size p o
+  pub run_short : length o < size → after_run (Err too_short) o ≡ print_into size p o
   unfolding print_into
   run_short h = rw (lt-ltb (length o) size h)
 
   pub run-written : size ≤ length o → (q : List ℕ) → p ≡ q → (r : ℕ) (o' : List ℕ) → r ≡ length q → o' ≡ put o 0 q
-      → after_run (ran.Written r) o' ≡ print_into size p o
+      → after_run (Ok r) o' ≡ print_into size p o
   unfolding print_into
   run-written h q e r o' er eo =
-      rw (le-ltb (length o) size h) (ap₂ (λ (x : ℕ) (y : List ℕ). after_run (ran.Written x) y) (er ∙ ap length (sym e)) (eo ∙ ap (put o 0) (sym e)))
+      rw (le-ltb (length o) size h) (ap₂ (λ (x : ℕ) (y : List ℕ). after_run (Ok x) y) (er ∙ ap length (sym e)) (eo ∙ ap (put o 0) (sym e)))
 
 -- and what it wrote fits an output that is long enough
-pub written-fits : (size : ℕ) (r : Ran) (k : ℕ) (o : List ℕ) → r ≡ ran.Written k → Fits size r → size ≤ length o → k ≤ length o
+pub written-fits : (size : ℕ) (r : Result ℕ TooShort) (k : ℕ) (o : List ℕ) → r ≡ Ok k → Fits size r → size ≤ length o → k ≤ length o
 written-fits size r k o e f h = let g : k ≤ size = subst (Fits size) e f in omega arith
+
+-- for the functions that write a number, the end of a line, and a line
+pub ruleset decimals = (decimal-some, decimal-one, decimal-longer, writes_more)
+
+pub ruleset printing = (printing_starts, printing_fits, printing_last, printing_goes, printing_ends)
+
+pub ruleset rows = (length-row, length-numbers, one_number)

@@ -1,85 +1,81 @@
 //! Text of ASCII bytes: pieces parted by a byte (lines, fields), decimal numbers read and written. Nothing here knows of nodes.
 #![tactic(auto)]
 
-ghost use Rattle.std.specs.Prelude.{◌≡◌, ◌+◌, ◌-◌, ◌*◌, ◌≤◌, ◌<◌, length, take, drop};
+ghost use Rattle.std.specs.Prelude.{◌≡◌, ◌+◌, ◌-◌, ◌*◌, ◌≤◌, ◌<◌, length, take, drop, eqb, position, MatchOption, ◌∷◌, []};
+ghost use Rattle.text.specs.Pieces.{split};
+ghost use Rattle.refusal.specs.Numbers.{number};
 ghost use Rattle.text.specs.Before.{before};
-ghost use Rattle.text.specs.Fields.{is_digit, value};
+ghost use Rattle.text.specs.Fields.{value};
 ghost use Rattle.text.specs.Print.{decimal, line_end, row, number_row, refusal_row};
 ghost use Rattle.text.specs.Wrote.{Wrote};
 
-/// What a field says: a number, or none.
-#[derive(Clone, Copy)]
-pub enum Number {
-    Is(u64),
-    Not,
+use refusal::Refusal;
+use std::error::Error;
+use std::fmt;
+
+/// A lent output is too short for what a run prints.
+#[derive(Clone, Copy, Debug, PartialEq, Eq)]
+pub struct TooShort;
+
+impl fmt::Display for TooShort {
+    fn fmt<W: fmt::Write>(&self, f: &mut fmt::Formatter<W>) -> fmt::Result {
+        f.write_str("the output is too short")
+    }
 }
 
-/// What a run that prints answers: that its output is too short, or how many bytes it wrote.
-#[derive(Clone, Copy)]
-pub enum Ran {
-    TooShort,
-    Written(usize),
+impl Error for TooShort {}
+
+// The place of the first byte c, if there is one.
+fn first(s: &[u8], c: u8) -> Option<usize>
+    ensures { result ≡ position (λ b. eqb b c) s.now }
+{
+    s.iter().position(|b| *b == c)
+}
+
+/// What stands before the first byte c and what stands behind it, if there is one.
+#[tactic(auto, using(crate::proofs::Pieces::parted))]
+pub fn split_once(s: &[u8], c: u8) -> Option<(&[u8], &[u8])>
+    ensures { MatchOption result (split c s.now ≡ s.now ∷ []) (λ p. split c s.now ≡ p.0.now ∷ split c p.1.now) }
+{
+    match first(s, c) {
+        Some(at) => Some((&s[..at], &s[at + 1..])),
+        None => None,
+    }
 }
 
 /// The place of the first byte c at or after `at`, or the length of s where there is none.
+#[tactic(auto, using(crate::proofs::Pieces::found_some, crate::proofs::Pieces::found_none))]
 pub fn find(s: &[u8], at: usize, c: u8) -> usize
     requires { at ≤ length s.now }
     ensures { (result ≡ at + before c (drop at s.now)) × (result ≤ length s.now) }
 {
-    let mut i = at;
-    while i < s.len() {
-        if s[i] == c {
-            return i;
-        }
-        i += 1;
+    match first(&s[at..], c) {
+        Some(behind) => at + behind,
+        None => s.len(),
     }
-    i
-}
-
-// Whether a byte is a decimal digit.
-fn is_digit(b: u8) -> bool
-    ensures { result ≡ is_digit b }
-{
-    if b < b'0' {
-        return false;
-    }
-    b <= b'9'
-}
-
-// The number v with one digit more behind it.
-fn with_digit(v: u64, b: u8) -> u64
-    requires { (48 ≤ b) × (b ≤ 57) × (10 * v + 9 < 18446744073709551616) }
-    ensures { result ≡ 10 * v + (b - 48) }
-{
-    10 * v + (b - b'0') as u64
 }
 
 /// The number of a field of 1 to `most` digits, the whole of s. Nineteen digits fit a u64.
-pub fn value(s: &[u8], most: usize) -> Number
+#[tactic(auto, using(crate::proofs::Fields::reading))]
+pub fn value(s: &[u8], most: usize) -> Option<u64>
     requires { most ≤ 19 }
     ensures { result ≡ value most s.now }
 {
-    if s.len() == 0 {
-        return Number::Not;
+    if s.is_empty() || most < s.len() {
+        return None;
     }
-    if most < s.len() {
-        return Number::Not;
-    }
-    let mut v: u64 = 0;
-    let mut i = 0;
-    while i < s.len() {
-        let b = s[i];
-        if !is_digit(b) {
-            return Number::Not;
+    let mut v = 0;
+    for b in s {
+        if !b.is_ascii_digit() {
+            return None;
         }
-        v = with_digit(v, b);
-        i += 1;
+        v = 10 * v + u64::from(*b - b'0');
     }
-    Number::Is(v)
+    Some(v)
 }
 
 /// The number of the field of 1 to `most` digits that stands from `at` to `end`.
-pub fn field(s: &[u8], at: usize, end: usize, most: usize) -> Number
+pub fn field(s: &[u8], at: usize, end: usize, most: usize) -> Option<u64>
     requires { (at ≤ end) × (end ≤ length s.now) × (most ≤ 19) }
     ensures { result ≡ value most (take (end - at) (drop at s.now)) }
 {
@@ -87,6 +83,7 @@ pub fn field(s: &[u8], at: usize, end: usize, most: usize) -> Number
 }
 
 /// Writes v in decimal from `at` on, and gives the place after it.
+#[tactic(auto, using(crate::proofs::Print::decimals), unfolding(wire::specs::Bytes::put))]
 pub fn put_decimal(out: &mut [u8], at: usize, v: u32) -> usize
     requires { at + length (decimal v) ≤ length out.old }
     ensures { Wrote (decimal v) at out.old result out.new }
@@ -101,22 +98,22 @@ pub fn put_decimal(out: &mut [u8], at: usize, v: u32) -> usize
 }
 
 // Writes the end of a printed line from `at` on: each number behind one space, a line feed. Gives the place after it.
+#[tactic(auto, using(crate::proofs::Print::printing))]
 fn put_line_end(out: &mut [u8], at: usize, values: &[u32]) -> usize
     requires { at + length (line_end values.now) ≤ length out.old }
     ensures { Wrote (line_end values.now) at out.old result out.new }
 {
     let mut end = at;
-    let mut i = 0;
-    while i < values.len() {
+    for v in values {
         out[end] = b' ';
-        end = put_decimal(out, end + 1, values[i]);
-        i += 1;
+        end = put_decimal(out, end + 1, *v);
     }
     out[end] = b'\n';
     end + 1
 }
 
 /// Writes a printed line with a letter from `at` on: the letter, each number behind one space, a line feed. Gives the place after it.
+#[tactic(auto, using(crate::proofs::Print::rows), unfolding(crate::specs::Print::row, wire::specs::Bytes::put))]
 pub fn put_row(out: &mut [u8], at: usize, letter: u8, values: &[u32]) -> usize
     requires { at + length (row letter values.now) ≤ length out.old }
     ensures { Wrote (row letter values.now) at out.old result out.new }
@@ -126,6 +123,7 @@ pub fn put_row(out: &mut [u8], at: usize, letter: u8, values: &[u32]) -> usize
 }
 
 /// Writes a printed line without a letter from `at` on: the first number, each other number behind one space, a line feed. Gives the place after it.
+#[tactic(auto, using(crate::proofs::Print::rows), unfolding(crate::specs::Print::number_row))]
 pub fn put_numbers(out: &mut [u8], at: usize, first: u32, values: &[u32]) -> usize
     requires { at + length (number_row first values.now) ≤ length out.old }
     ensures { Wrote (number_row first values.now) at out.old result out.new }
@@ -135,10 +133,10 @@ pub fn put_numbers(out: &mut [u8], at: usize, first: u32, values: &[u32]) -> usi
 }
 
 /// Writes a refusal's line from `at` on, and gives the place after it.
-pub fn put_refusal(out: &mut [u8], at: usize, why: u8) -> usize
+#[tactic(auto, using(crate::proofs::Print::rows))]
+pub fn put_refusal(out: &mut [u8], at: usize, why: Refusal) -> usize
     requires { at + 6 ≤ length out.old }
-    ensures { (result ≤ at + 6) × Wrote (refusal_row why) at out.old result out.new }
+    ensures { (result ≤ at + 6) × Wrote (refusal_row (number why)) at out.old result out.new }
 {
-    let values = [why as u32];
-    put_row(out, at, b'R', &values)
+    put_row(out, at, b'R', &[u32::from(why.number())])
 }

@@ -3,10 +3,10 @@ use Prim.Native.Nat.{◌<◌, ◌≤◌, ℕ}
 use mathlib.Core.Bool.{Bool, cond, false, true, ◌||◌}
 use mathlib.Core.List.{List, ◌++◌}
 use mathlib.Core.Path.{◌≡◌, refl, sym}
-use native.Mathlib.Omega.{arith}
 use borrow.Author.Tests.{le-ltb, lt-ltb, ltb-false}
 use lib.Dec.{ltb}
 use lib.ListN.{length, take, take-append-drop}
+use Rattle.std.proofs.Common.{None, Some}
 use Rattle.trail.specs.Sound.{unsound}
 use Rattle.trail.specs.SoundLast.{sound_last}
 use Rattle.trail.specs.Walk.{bad_end, last_frame, last_length, last_start}
@@ -45,30 +45,30 @@ good s e =
     let q = neither (ltb (length s) 4) (ltb (length s) (last_length s)) p.0 in
     record { inside = ltb-false (length s) (last_length s) q.1; sound = p.1 }
 
--- the length of the sound frame there is 0 exactly where the end is bad
-pub none-bad : (s : List ℕ) → bad_end s ≡ true → sound_last s ≡ 0
+-- there is no sound frame there exactly where the end is bad
+pub none-bad : (s : List ℕ) → bad_end s ≡ true → None ≡ sound_last s
 unfolding sound_last
 none-bad s e = rw e
 
-pub some_good : (s : List ℕ) → bad_end s ≡ false → sound_last s ≡ last_length s
+pub some_good : (s : List ℕ) → bad_end s ≡ false → Some (last_length s) ≡ sound_last s
 unfolding sound_last
 some_good s e = rw e
 
-pub bad-none : (s : List ℕ) → sound_last s ≡ 0 → bad_end s ≡ true
+pub bad-none : (s : List ℕ) → None ≡ sound_last s → bad_end s ≡ true
 unfolding sound_last
 bad-none s = go (bad_end s)
   where
-    go : (b : Bool) → cond b 0 (last_length s) ≡ 0 → b ≡ true
+    go : (b : Bool) → None ≡ cond b None (Some (last_length s)) → b ≡ true
     go true e = refl
-    go false e = absurd (omega arith)
+    go false e = cc
 
-pub good-some : (s : List ℕ) → (sound_last s ≡ 0 → ⊥) → bad_end s ≡ false
+pub good-some : (s : List ℕ) (k : ℕ) → Some k ≡ sound_last s → (bad_end s ≡ false) × (k ≡ last_length s)
 unfolding sound_last
-good-some s = go (bad_end s)
+good-some s k = go (bad_end s)
   where
-    go : (b : Bool) → (cond b 0 (last_length s) ≡ 0 → ⊥) → b ≡ false
-    go true h = absurd (h refl)
-    go false h = refl
+    go : (b : Bool) → Some k ≡ cond b None (Some (last_length s)) → (b ≡ false) × (k ≡ last_length s)
+    go true e = cc
+    go false e = (refl, cc)
 
 -- what is left is what lies in front of the last frame, and that frame
 pub split-last : (s : List ℕ) → s ≡ take (last_start s) s ++ last_frame s

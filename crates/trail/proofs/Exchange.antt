@@ -30,8 +30,8 @@ use Rattle.trail.specs.Trail.{places_back, trail_of}
 use Rattle.trail.specs.Trails.{EachSound}
 use Rattle.trail.specs.Walk.{Walk, stops, walk, walk_call}
 use Rattle.trail.specs.Write.{write_call}
-use Rattle.trail.specs.declared.walk.WalkAnswer.{WalkAnswer}
-use Rattle.trail.specs.declared.walk.WalkAnswer.TheVariants as walk_answer
+use Rattle.trail.specs.WalkAnswer.{WalkAnswer}
+use Rattle.trail.specs.WalkAnswer as walk_answer
 
 -- a walk that leaves something is refused with every window
 refused : (file : List ℕ) (w : ℕ) → (length (walk file).left ≡ 0 → ⊥) → walk_call file w ≡ walk_answer.Refused 19

@@ -14,10 +14,10 @@ use Rattle.trail.specs.Step.{Steps, step_at, step_call, steps_after}
 use Rattle.trail.specs.StepsWalk.{walk_steps}
 use Rattle.trail.specs.Walk.{bad_end, last_frame, last_length, last_start, walk, walk_call}
 use Rattle.trail.specs.declared.walk.Cursor.{Cursor}
-use Rattle.trail.specs.declared.walk.StepAnswer.{StepAnswer}
-use Rattle.trail.specs.declared.walk.StepAnswer.TheVariants as step_answer
-use Rattle.trail.specs.declared.walk.WalkAnswer.{WalkAnswer}
-use Rattle.trail.specs.declared.walk.WalkAnswer.TheVariants as walk_answer
+use Rattle.trail.specs.StepAnswer.{StepAnswer}
+use Rattle.trail.specs.StepAnswer as step_answer
+use Rattle.trail.specs.WalkAnswer.{WalkAnswer}
+use Rattle.trail.specs.WalkAnswer as walk_answer
 
 -- a whole walk's answer by the answer with which its steps end
 abbrev answer_of : StepAnswer → WalkAnswer

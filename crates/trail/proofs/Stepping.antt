@@ -11,14 +11,15 @@ use lib.Dec.{ltb}
 use lib.ListN.{get_or, length, length-take, take}
 use lib.Seq.{get_or-drop, get_or-take, take_all}
 use Rattle.frame.specs.Header.{header}
-use Rattle.trail.proofs.Ends.{bad-none, good, good-some, some_good}
+use Rattle.trail.proofs.Ends.{bad-none, good, good-some}
+use Rattle.std.proofs.Common.{None, Some}
 use Rattle.trail.specs.Cursor.{passing, wrong_window}
 use Rattle.trail.specs.Sound.{extra_bit, kind_bit}
 use Rattle.trail.specs.Step.{step_at, step_call}
 use Rattle.trail.specs.SoundLast.{sound_last}
 use Rattle.trail.specs.Walk.{bad_end, last_frame, last_length, last_start}
 use Rattle.trail.specs.declared.walk.Cursor.{Cursor}
-use Rattle.trail.specs.declared.walk.StepAnswer.TheVariants as step_answer
+use Rattle.trail.specs.StepAnswer as step_answer
 use Rattle.wire.proofs.Tests.{neither}
 
 -- a window that is not wrong has 1 to 64 frames
@@ -60,16 +61,19 @@ module _ (file : List ℕ) (c : Cursor) where
     step_end z = at_left ∙ rw (eq-eqb (length (take end file)) 0 (left-length ∙ z))
 
     -- a bad end
-    pub step-bad : (end ≡ 0 → ⊥) → sound_last (take end file) ≡ 0 → step_call file c ≡ step_answer.Refused 19
+    pub step-bad : (end ≡ 0 → ⊥) → None ≡ sound_last (take end file) → step_call file c ≡ step_answer.Refused 19
     unfolding step_at
     step-bad h z = at_left ∙ rw (ne_eqb (length (take end file)) 0 (λ p. h (sym left-length ∙ p)), bad-none (take end file) z)
 
-    module _ (size : ℕ) (p : size ≡ sound_last (take end file)) (h : size ≡ 0 → ⊥) where
+    module _ (size : ℕ) (p : Some size ≡ sound_last (take end file)) where
       ends-well : bad_end (take end file) ≡ false
-      ends-well = good-some (take end file) (λ z. h (p ∙ z))
+      ends-well = (good-some (take end file) size p).0
 
       is_last : size ≡ last_length (take end file)
-      is_last = p ∙ some_good (take end file) ends-well
+      is_last = (good-some (take end file) size p).1
+
+      pub size-least : 4 ≤ size
+      size-least = omega (arith, is_last)
 
       -- a sound frame ends there: it lies inside, and has a byte at least
       pub size-le : size ≤ end
@@ -82,7 +86,7 @@ module _ (file : List ℕ) (c : Cursor) where
       unfolding extra_bit header
       kind_is =
           let k : get_or (last_frame (take end file)) 0 0 ≡ get_or file (end - size) 0 =
-          get_or-drop (last_start (take end file)) (take end file) 0 0 ∙ rw (start_is, add-zero) (get_or-take end file (end - size) 0 (omega (arith, size-le))) in
+          get_or-drop (last_start (take end file)) (take end file) 0 0 ∙ rw (start_is, add-zero) (get_or-take end file (end - size) 0 (omega (arith, size-least, size-le))) in
           ap kind_bit k
 
       pub step-shown : (next : Cursor) (x : ℕ) → x ≡ kind_bit (get_or file (end - size) 0) → next ≡ passing c (end - size) x
@@ -91,7 +95,7 @@ module _ (file : List ℕ) (c : Cursor) where
       step-shown next x b q =
           rw (q, b) (sym (at_left
           ∙ rw (
-            ne_eqb (length (take end file)) 0 (λ z. h (omega (arith, size-le, left-length, z))),
+            ne_eqb (length (take end file)) 0 (λ z. absurd (omega (arith, size-least, size-le, left-length, z))),
             ends-well,
             kind_is,
             start_is,

@@ -18,7 +18,7 @@ use Rattle.trail.specs.Step.{Steps, step_at, step_call, steps_after}
 use Rattle.trail.specs.StepsWalk.{StepsWalk, steps_of, walk_steps}
 use Rattle.trail.specs.Walk.{bad_end, last_frame, last_length, last_start, walk, walk_back}
 use Rattle.trail.specs.declared.walk.Cursor.{Cursor}
-use Rattle.trail.specs.declared.walk.StepAnswer.TheVariants as step_answer
+use Rattle.trail.specs.StepAnswer as step_answer
 use Rattle.frame.specs.Header.{header}
 
 -- an answer that shows nothing is the last

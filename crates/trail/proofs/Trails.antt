@@ -15,7 +15,7 @@ use Rattle.trail.specs.Trail.{places_back, trail_of}
 use Rattle.trail.specs.Trails.{AnyBytes, EachSound, Trails, WrittenTrail, write_all}
 use Rattle.trail.specs.Walk.{Walk, last_frame, last_start, stops, walk, walk_call}
 use Rattle.trail.specs.Write.{after_write, no_room_for, write_call}
-use Rattle.trail.specs.declared.write.WriteAnswer.TheVariants as write_answer
+use Rattle.trail.specs.WriteAnswer as write_answer
 use Rattle.wire.proofs.Bytes.{length-put, put_append, put_back, put-nil}
 use Rattle.wire.specs.Bytes.{put}
 

@@ -3,8 +3,8 @@
 use Rattle.std.specs.Prelude.{ℕ, false, true, List, [], ◌∷◌, ◌++◌, ◌≡◌, drop, replicate, take}
 use Rattle.wire.specs.Trailer.{sealed}
 use Rattle.wire.specs.Exchange.{exchanged}
-use Rattle.trail.specs.declared.walk.WalkAnswer.TheVariants as walk_answer
-use Rattle.trail.specs.declared.write.WriteAnswer.TheVariants as write_answer
+use Rattle.trail.specs.WalkAnswer as walk_answer
+use Rattle.trail.specs.WriteAnswer as write_answer
 use Rattle.trail.specs.Sound.{unsound}
 use Rattle.trail.specs.Trail.{Place, trail_of}
 use Rattle.trail.specs.Trails.{EachSound}

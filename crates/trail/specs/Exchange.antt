@@ -2,8 +2,8 @@
 use Rattle.std.specs.Prelude.{ℕ, ◌+◌, ◌≤◌, false, List, [], ◌∷◌, ◌++◌, map, ◌≡◌, length}
 use Rattle.wire.specs.Bytes.{AllBytes}
 use Rattle.wire.specs.Exchange.{Unequal, exchanged}
-use Rattle.trail.specs.declared.walk.WalkAnswer.TheVariants as walk_answer
-use Rattle.trail.specs.declared.write.WriteAnswer.TheVariants as write_answer
+use Rattle.trail.specs.WalkAnswer as walk_answer
+use Rattle.trail.specs.WriteAnswer as write_answer
 use Rattle.trail.specs.Sound.{extra_bit, unsound}
 use Rattle.trail.specs.Trail.{places_back, trail_of}
 use Rattle.trail.specs.Trails.{EachSound}

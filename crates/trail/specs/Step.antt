@@ -1,8 +1,8 @@
 -- A step of a walk, by its cursor, and the walk that is made of steps.
 use Rattle.std.specs.Prelude.{ℕ, zero, suc, cond, List, [], ◌∷◌, eqb, length, take}
 use Rattle.trail.specs.declared.walk.Cursor.{Cursor}
-use Rattle.trail.specs.declared.walk.StepAnswer.{StepAnswer}
-use Rattle.trail.specs.declared.walk.StepAnswer.TheVariants as step_answer
+use Rattle.trail.specs.StepAnswer.{StepAnswer}
+use Rattle.trail.specs.StepAnswer as step_answer
 use Rattle.trail.specs.Cursor.{passing, wrong_window}
 use Rattle.trail.specs.Sound.{extra_bit}
 use Rattle.trail.specs.Trail.{Place}

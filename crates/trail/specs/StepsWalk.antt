@@ -1,7 +1,7 @@
 -- A walk made of steps is the walk: the same frames shown, then the start with the largest count, or 19. So what the cursor carried along is what the
 -- plain definition counts.
 use Rattle.std.specs.Prelude.{ℕ, ◌≤◌, cond, List, [], ◌≡◌, eqb, length}
-use Rattle.trail.specs.declared.walk.StepAnswer.TheVariants as step_answer
+use Rattle.trail.specs.StepAnswer as step_answer
 use Rattle.trail.specs.Cursor.{begun, wrong_window}
 use Rattle.trail.specs.Step.{Steps, step_call, steps_after}
 use Rattle.trail.specs.Walk.{Walk, walk}

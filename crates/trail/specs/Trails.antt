@@ -2,10 +2,10 @@
 -- end to end from the file's end.
 use Rattle.std.specs.Prelude.{ℕ, ◌≤◌, true, false, List, [], ◌∷◌, ◌++◌, map, ◌≡◌, length, take}
 use Rattle.wire.specs.Bytes.{put}
-use Rattle.trail.specs.declared.walk.StepAnswer.TheVariants as step_answer
-use Rattle.trail.specs.declared.walk.WalkAnswer.TheVariants as walk_answer
-use Rattle.trail.specs.declared.write.WriteAnswer.{WriteAnswer}
-use Rattle.trail.specs.declared.write.WriteAnswer.TheVariants as write_answer
+use Rattle.trail.specs.StepAnswer as step_answer
+use Rattle.trail.specs.WalkAnswer as walk_answer
+use Rattle.trail.specs.WriteAnswer.{WriteAnswer}
+use Rattle.trail.specs.WriteAnswer as write_answer
 use Rattle.trail.specs.Cursor.{begun, wrong_window}
 use Rattle.trail.specs.Sound.{extra_bit, unsound}
 use Rattle.trail.specs.Step.{step_call, steps_after}

@@ -1,8 +1,8 @@
 -- The walk back over the bytes in use, as the list of what it shows.
 use Rattle.std.specs.Prelude.{ℕ, zero, suc, ◌+◌, ◌-◌, Bool, cond, ◌||◌, List, [], ◌∷◌, eqb, ltb, length, take, drop}
 use Rattle.wire.specs.Trailer.{count_back}
-use Rattle.trail.specs.declared.walk.WalkAnswer.{WalkAnswer}
-use Rattle.trail.specs.declared.walk.WalkAnswer.TheVariants as walk_answer
+use Rattle.trail.specs.WalkAnswer.{WalkAnswer}
+use Rattle.trail.specs.WalkAnswer as walk_answer
 use Rattle.trail.specs.Cursor.{wrong_window}
 use Rattle.trail.specs.Sound.{extra_bit, unsound}
 use Rattle.trail.specs.Trail.{Place}

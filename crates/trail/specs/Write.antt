@@ -1,8 +1,8 @@
 -- One frame written on: 19 where it is not sound on its own, then 3 where there is no room; a refusal leaves every byte.
 use Rattle.std.specs.Prelude.{ℕ, ◌+◌, Bool, cond, List, ltb, length}
 use Rattle.wire.specs.Bytes.{put}
-use Rattle.trail.specs.declared.write.WriteAnswer.{WriteAnswer}
-use Rattle.trail.specs.declared.write.WriteAnswer.TheVariants as write_answer
+use Rattle.trail.specs.WriteAnswer.{WriteAnswer}
+use Rattle.trail.specs.WriteAnswer as write_answer
 use Rattle.trail.specs.Sound.{unsound}
 
 -- the answer, and the file's bytes

@@ -1,27 +1,21 @@
 //! One frame written on: behind the bytes in use, if it is sound and there is room.
 ghost use Rattle.std.specs.Prelude.{◌≡◌};
+ghost use Rattle.trail.specs.WriteAnswer.{write_answered};
 ghost use Rattle.trail.specs.Write.{after_write, write_call};
 
-/// What a write answers: a refusal's number, or how many bytes are in use now.
-#[derive(Clone, Copy)]
-pub enum WriteAnswer {
-    Refused(u8),
-    Written(usize),
-}
+use refusal::Refusal;
 
-/// Writes a frame behind the first `used` bytes of the file: 19 where the frame is not sound on its own, then 3 where it does not fit.
-pub fn write(file: &mut [u8], used: usize, frame: &[u8]) -> WriteAnswer
-    ensures { after_write result file.new ≡ write_call file.old used frame.now }
+/// Writes a frame behind the first `used` bytes of the file: 19 where the frame is not sound on its own, then 3 where it does not fit, and else how many bytes are in use now.
+#[tactic(auto, using(std::proofs::lemmas::Grind::common_steps), unfolding(crate::specs::Write::write_call, crate::specs::Write::no_room_for))]
+pub fn write(file: &mut [u8], used: usize, frame: &[u8]) -> Result<usize, Refusal>
+    ensures { after_write (write_answered result) file.new ≡ write_call file.old used frame.now }
 {
     if super::sound::unsound(frame) {
-        return WriteAnswer::Refused(19);
+        return Err(Refusal::Trail);
     }
-    if file.len() < used {
-        return WriteAnswer::Refused(3);
-    }
-    if file.len() - used < frame.len() {
-        return WriteAnswer::Refused(3);
+    if file.len() < used || file.len() - used < frame.len() {
+        return Err(Refusal::TooShort);
     }
     wire::copy(file, used, frame);
-    WriteAnswer::Written(used + frame.len())
+    Ok(used + frame.len())
 }

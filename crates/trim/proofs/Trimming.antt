@@ -95,11 +95,11 @@ module _ (me n cap at : ℕ) (l₀ o₀ : List ℕ) where
 
   module _ {l o : List ℕ} {pos i : ℕ} (K : Trimming me n cap at l₀ o₀ l o pos i) where
     -- one round more
-    pub trimming-round : {l' o' : List ℕ} {pos' : ℕ} → me < 12 → i < 12 → cap < count (entry l) → l' ≡ flat (clear me (fullest (entry l)) (entry l))
+    pub trimming_round : {l' o' : List ℕ} {pos' : ℕ} → me < 12 → i < 12 → cap < count (entry l) → l' ≡ flat (clear me (fullest (entry l)) (entry l))
         → o' ≡ put o pos (encode (extra_message me (fullest (entry l)) n cap (entry l)))
         → pos' ≡ pos + length (encode (extra_message me (fullest (entry l)) n cap (entry l)))
         → Trimming me n cap at l₀ o₀ l' o' pos' (i + 1)
-    trimming-round {l'} {o'} {pos'} hm h more el eo ep =
+    trimming_round {l'} {o'} {pos'} hm h more el eo ep =
         let m : Matrix = entry l in
         let j : ℕ = fullest m in
         let x : Message = extra_message me j n cap m in
@@ -124,10 +124,12 @@ module _ (me n cap at : ℕ) (l₀ o₀ : List ℕ) where
         (sym (flat_back l K.size) ∙ ap flat w.0, w.1, w.2, w.3)
 
     -- at most cap entries are non-zero
-    pub trimming-done : count (entry l) ≤ cap → Ended me n cap at l₀ o₀ l o pos i
-    trimming-done h = ended (trim-none me n cap (entry l) (12 - i) h)
+    pub trimming_done : count (entry l) ≤ cap → Ended me n cap at l₀ o₀ l o pos i
+    trimming_done h = ended (trim-none me n cap (entry l) (12 - i) h)
 
     -- twelve rounds were made
-    pub trimming-end : 12 ≤ i → Ended me n cap at l₀ o₀ l o pos i
+    pub trimming_end : i ≡ 12 → Ended me n cap at l₀ o₀ l o pos 12
     unfolding trim_for
-    trimming-end h = let z : 12 - i ≡ 0 = omega arith in ended (rw z)
+    trimming_end h =
+        let z : 12 - i ≡ 0 = omega arith in
+        rw h at (ended (rw z))

@@ -25,81 +25,47 @@
 #![tactic(auto)]
 
 mod calls;
-mod print;
 mod show;
 
-use script::state::Cells;
-use script::text::Line;
-use script::{frames, state, text};
+use script::command::Command;
+use script::printed::RecordText;
+use script::state::State;
 use std::io;
 use std::io::{BufWriter, Read, Write};
 
 /// Bytes of a script at most: what stands behind them is not read.
 const MAX_SCRIPT: u64 = 65_536;
 
-// Writes the small numbers of record a.
-fn small(s: &mut Cells, l: Line) {
-    let bytes = [
-        text::byte(l.b),
-        text::byte(l.c),
-        text::byte(l.d),
-        text::byte(l.e),
-    ];
-    state::store_bytes(s, state::record(l.a), &bytes);
-}
-
-// Writes the count v at place i of record k.
-fn count(s: &mut Cells, k: usize, i: usize, v: usize) {
-    state::put(s, state::record(k), i, v % 4294967296);
-}
-
-// The place of M[x,y] in a record.
-fn place(x: usize, y: usize) -> usize {
-    4 + 12 * (x % 12) + y % 12
-}
-
-// Writes e at M[x,b] of record a for each row x from c to d but b.
-fn column(s: &mut Cells, l: Line) {
-    for x in l.c..=text::least(l.d, 11) {
-        if x != l.b {
-            count(s, l.a, place(x, l.b), l.e);
+// Runs a command, and prints what it shows.
+fn run<W: Write>(w: &mut W, state: &mut State, command: Command) -> io::Result<()> {
+    match command {
+        Command::Reset => state.reset(),
+        Command::SetUp(set_up) => calls::set_up(w, state, set_up)?,
+        Command::Send(send) => calls::send(w, state, send)?,
+        Command::Offer(offer) => calls::offer(w, state, offer)?,
+        Command::Deliver(deliver) => calls::deliver(w, state, deliver)?,
+        Command::ShowRecord(k) => writeln!(w, "  {}", RecordText(&state.place(k).node))?,
+        Command::ShowQueue(k) => show::queue(w, &state.place(k).queue)?,
+        Command::Edit { place, edit } => state.place_mut(place).edit(edit),
+        Command::PutFrame { place, slot } => state.put_frame(place, slot),
+        Command::TakeFrame(issue) => state.take_frame(issue),
+        Command::EditFrame(edit) => state.frame.edit(edit),
+        Command::CloseFrame => {
+            state.frame.close();
+            writeln!(w, " {}", state.frame.text())?;
         }
-    }
-}
-
-// Runs a command.
-fn run<W: Write>(w: &mut W, s: &mut Cells, l: Line) -> io::Result<()> {
-    match l.what {
-        b'Z' => state::copy(s, 0, state::ALL, 0, 0),
-        b'U' => calls::set_up(w, s, l)?,
-        b'S' => calls::send(w, s, l)?,
-        b'O' => calls::offer(w, s, l)?,
-        b'D' => calls::deliver(w, s, l)?,
-        b'R' => show::show_record(w, s, l.a)?,
-        b'K' => show::show_queue(w, s, l.a)?,
-        b'I' => small(s, l),
-        b'M' => count(s, l.a, place(l.b, l.c), l.d),
-        b'V' => count(s, l.a, 148 + l.b % 12, l.c),
-        b'A' => column(s, l),
-        b'Q' => state::put(s, state::queue(l.a), text::least(l.b, 12839), l.c % 256),
-        b'P' => frames::place(s, l.a, l.b),
-        b'F' => frames::take(s, l.a),
-        b'X' => frames::make(s, l),
-        b'E' => frames::entry(s, l),
-        b'B' => state::put(s, state::FRAME, l.a, l.b % 256),
-        b'L' => state::put(s, state::LENGTH, 0, l.a),
-        b'T' => show::close_frame(w, s)?,
-        _ => (),
     }
     Ok(())
 }
 
 // Prints each line of a script and runs its command; a last line without its line feed is left out.
-fn run_lines<W: Write>(w: &mut W, s: &mut Cells, script: &[u8]) -> io::Result<()> {
+fn run_lines<W: Write>(w: &mut W, state: &mut State, script: &[u8]) -> io::Result<()> {
     for line in script.split_inclusive(|byte| *byte == b'\n') {
         if let Some(words) = line.strip_suffix(b"\n") {
             w.write_all(line)?;
-            run(w, s, text::command(words))?;
+            if let Some(command) = Command::parse(words) {
+                run(w, state, command)?;
+            }
         }
     }
     Ok(())
@@ -109,7 +75,7 @@ fn main(rt: HostRuntime) -> io::Result<()> {
     let mut script = Vec::new(rt.alloc());
     rt.reader().take(MAX_SCRIPT).read_to_end(&mut script)?;
     let mut w = BufWriter::new(rt.alloc(), io::writer(&rt))?;
-    let mut cells = [0usize; state::ALL];
-    run_lines(&mut w, &mut cells, script.as_slice())?;
+    let mut state = State::new(rt.alloc())?;
+    run_lines(&mut w, &mut state, script.as_slice())?;
     w.flush()
 }

@@ -18,7 +18,7 @@ weighed_mod w b =
     ap (λ (k : ℕ). k * b) (sym (mod-add-div w 65536)) ∙ rw (add-mul, mul_assoc) in
     rw parts (sym (add-mul-mod_self_left (w % 65536 * b) 65536 (w / 65536 * b)))
 
--- it is the list's sum modulo 65,536; wrapped-checksum, below, is the one lemma that the code's proof cites
+-- it is the list's sum modulo 65,536; wrapped_checksum, below, is the one lemma that the code's proof cites
 from : (acc w : ℕ) (s : List ℕ) → acc < 65536 → wrapped acc (w % 65536) s ≡ (acc + weighted w s) % 65536
 unfolding wrapped
 from acc w [] h = omega arith
@@ -26,23 +26,23 @@ from acc w (b ∷ s) h =
     let next : (w % 65536 + 1) % 65536 ≡ (w + 1) % 65536 = omega arith in
     rw (weighed_mod w b, next) (from ((acc + w * b % 65536) % 65536) (w + 1) s (omega arith) ∙ omega arith)
 
-pub wrapped-checksum : (s : List ℕ) → wrapped 0 1 s ≡ checksum s
+pub wrapped_checksum : (s : List ℕ) → wrapped 0 1 s ≡ checksum s
 unfolding checksum
-wrapped-checksum s = from 0 1 s (omega arith) ∙ omega arith
+wrapped_checksum s = from 0 1 s (omega arith) ∙ omega arith
 
 pub checksum-lt : (s : List ℕ) → checksum s < 65536
 unfolding checksum
 checksum-lt s = omega arith
 
 -- one more byte of a loop that adds, and its end
-pub wrapped-rest : (acc w : ℕ) (s : List ℕ) (i : ℕ) → i < length s
+pub wrapped_rest : (acc w : ℕ) (s : List ℕ) (i : ℕ) → i < length s
     → wrapped acc w (drop i s) ≡ wrapped ((acc + w * get_or s i 0 % 65536) % 65536) ((w + 1) % 65536) (drop (i + 1) s)
 unfolding wrapped
-wrapped-rest acc w s i h = rw (rest s i h)
+wrapped_rest acc w s i h = rw (rest s i h)
 
-pub wrapped-end : (acc w : ℕ) (s : List ℕ) (i : ℕ) → length s ≤ i → i ≤ length s → wrapped acc w (drop i s) ≡ acc
+pub wrapped_end : (acc w : ℕ) (s : List ℕ) (i : ℕ) → length s ≤ i → i ≤ length s → wrapped acc w (drop i s) ≡ acc
 unfolding wrapped
-wrapped-end acc w s i h l = rw (rest_end s i h l)
+wrapped_end acc w s i h l = rw (rest_end s i h l)
 
 -- lengths
 pub length-trailer : (s : List ℕ) → length (trailer s) ≡ 4
@@ -80,10 +80,10 @@ module _ (o : List ℕ) (at end : ℕ) (h : at ≤ end) (room : end + 4 ≤ leng
         run_length,
       )
 
-  pub put-trailer : put (put o end (le16 (end - at))) (end + 2)
+  pub put_trailer : put (put o end (le16 (end - at))) (end + 2)
       (le16 (checksum (take (end + 2 - at) (drop at (put o end (le16 (end - at))))))) ≡ put o end (trailer run)
   unfolding trailer
-  put-trailer = rw (with_count, put_append, length-le16, run_length)
+  put_trailer = rw (with_count, put_append, length-le16, run_length)
 
 -- the trailer written behind bytes that were written from `at` on
 pub put-sealed : (o f : List ℕ) (at : ℕ) → at + length f ≤ length o

@@ -1,4 +1,5 @@
 //! Runs of bytes: the limits, little-endian fields, the checksum and the trailer. Nothing here knows of nodes or frames.
+// Kept: a field stands at an offset that the format gives, in bytes that are lent, so a write is handed both; an offset is no length beside a buffer.
 #![tactic(auto)]
 
 ghost use Rattle.std.specs.Prelude.{◌≡◌, ◌+◌, ◌-◌, ◌*◌, ◌%◌, ◌<◌, ◌≤◌, length, take, drop};
@@ -44,54 +45,42 @@ pub fn constants() -> Limits
     }
 }
 
-// The number of two bytes, the lowest first.
-fn joined16(a: u8, b: u8) -> u16
-    ensures { result ≡ a + 256 * b }
-{
-    a as u16 + 256 * (b as u16)
-}
-
-// The number of four bytes, the lowest first.
-fn joined32(a: u8, b: u8, c: u8, d: u8) -> u32
-    ensures { result ≡ a + 256 * b + 65536 * c + 16777216 * d }
-{
-    a as u32 + 256 * (b as u32) + 65536 * (c as u32) + 16777216 * (d as u32)
-}
-
 /// Reads the two bytes from `at` on.
+#[tactic(auto, unfolding(crate::specs::Bytes::u16_at))]
 pub fn get_u16(s: &[u8], at: usize) -> u16
     requires { at + 2 ≤ length s.now }
     ensures { result ≡ u16_at s.now at }
 {
-    joined16(s[at], s[at + 1])
+    u16::from_le_bytes([s[at], s[at + 1]])
 }
 
 /// Reads the four bytes from `at` on.
+#[tactic(auto, unfolding(crate::specs::Bytes::u32_at))]
 pub fn get_u32(s: &[u8], at: usize) -> u32
     requires { at + 4 ≤ length s.now }
     ensures { result ≡ u32_at s.now at }
 {
-    joined32(s[at], s[at + 1], s[at + 2], s[at + 3])
+    u32::from_le_bytes([s[at], s[at + 1], s[at + 2], s[at + 3]])
 }
 
+// Kept: `put_u16` and `put_u32` are one line each over std's bytes of a number; a trait over the two widths would be longer than both.
 /// Writes the two bytes of v from `at` on.
+#[tactic(auto, unfolding(crate::specs::Bytes::le16))]
 pub fn put_u16(out: &mut [u8], at: usize, v: u16)
     requires { at + 2 ≤ length out.old }
     ensures { out.new ≡ put out.old at (le16 v) }
 {
-    out[at] = (v % 256) as u8;
-    out[at + 1] = (v / 256 % 256) as u8;
+    copy(out, at, &v.to_le_bytes());
 }
 
+// Kept: the twin of `put_u16`; why, stands there.
 /// Writes the four bytes of v from `at` on.
+#[tactic(auto, unfolding(crate::specs::Bytes::le32))]
 pub fn put_u32(out: &mut [u8], at: usize, v: u32)
     requires { at + 4 ≤ length out.old }
     ensures { out.new ≡ put out.old at (le32 v) }
 {
-    out[at] = (v % 256) as u8;
-    out[at + 1] = (v / 256 % 256) as u8;
-    out[at + 2] = (v / 65536 % 256) as u8;
-    out[at + 3] = (v / 16777216 % 256) as u8;
+    copy(out, at, &v.to_le_bytes());
 }
 
 /// Copies s into out from `at` on.
@@ -99,18 +88,10 @@ pub fn copy(out: &mut [u8], at: usize, s: &[u8])
     requires { at + length s.now ≤ length out.old }
     ensures { out.new ≡ put out.old at s.now }
 {
-    let mut i = 0;
-    while i < s.len() {
-        out[at + i] = s[i];
-        i += 1;
+    // Kept: a board gives memcpy and memset alone, and copy_from_slice asks for memmove.
+    for (i, byte) in s.iter().enumerate() {
+        out[at + i] = *byte;
     }
-}
-
-// A byte times its weight, modulo 65,536.
-fn weighed(x: u8, weight: u16) -> u16
-    ensures { result ≡ weight * x % 65536 }
-{
-    (weight as u32 * (x as u32) % 65536) as u16
 }
 
 /// The sum, modulo 65,536, of each byte times one more than its offset, as a u16 total by wrapping add.
@@ -119,16 +100,15 @@ pub fn checksum(s: &[u8]) -> u16
 {
     let mut acc: u16 = 0;
     let mut weight: u16 = 1;
-    let mut i = 0;
-    while i < s.len() {
-        acc = std::num::wrapping_add_u16(acc, weighed(s[i], weight));
-        weight = std::num::wrapping_add_u16(weight, 1);
-        i += 1;
+    for byte in s {
+        acc = acc.wrapping_add(weight.wrapping_mul(u16::from(*byte)));
+        weight = weight.wrapping_add(1);
     }
     acc
 }
 
 /// Writes the trailer behind the bytes from `at` to `end`, and gives the place after it.
+#[tactic(auto, using(crate::proofs::Trailer::put_trailer))]
 pub fn write_trailer(out: &mut [u8], at: usize, end: usize) -> usize
     requires { (at ≤ end) × (end + 4 ≤ length out.old) × (end - at < 65536) }
     ensures { (result ≡ end + 4) × (out.new ≡ put out.old end (trailer (take (end - at) (drop at out.old)))) }
@@ -141,16 +121,12 @@ pub fn write_trailer(out: &mut [u8], at: usize, end: usize) -> usize
 }
 
 /// Whether s ends with a right trailer; s may have any length.
+#[tactic(auto, unfolding(crate::specs::Trailer::has_trailer, crate::specs::Trailer::count_back, crate::specs::Trailer::sum_back))]
 pub fn has_trailer(s: &[u8]) -> bool
     ensures { result ≡ has_trailer s.now }
 {
     let len = s.len();
-    if len < 4 {
-        return false;
-    }
-    if get_u16(s, len - 4) as usize != len - 4 {
-        return false;
-    }
-    let mid = len - 2;
-    get_u16(s, mid) == checksum(&s[..mid])
+    len >= 4
+        && usize::from(get_u16(s, len - 4)) == len - 4
+        && get_u16(s, len - 2) == checksum(&s[..len - 2])
 }

@@ -11,13 +11,13 @@ use Rattle.rights.specs.Rights.{mover}
 use Rattle.node.proofs.Told.{DeliverTold, OfferTold, SendTold, deliver-told, offer-told, send-told}
 use Rattle.node.specs.Answers.{AfterDeliver, AfterOffer, AfterSend}
 use Rattle.node.specs.Calls.{deliver_call, offer_call, send_call}
-use Rattle.node.specs.declared.Delivered.{Delivered}
-use Rattle.node.specs.declared.SendAnswer.{SendAnswer}
-use Rattle.node.specs.declared.OfferAnswer.{OfferAnswer}
-use Rattle.node.specs.declared.DeliverAnswer.{DeliverAnswer}
-use Rattle.node.specs.declared.SendAnswer.TheVariants as send_answer
-use Rattle.node.specs.declared.OfferAnswer.TheVariants as offer_answer
-use Rattle.node.specs.declared.DeliverAnswer.TheVariants as deliver_answer
+use Rattle.node.specs.Delivered.{Delivered}
+use Rattle.node.specs.SendAnswer.{SendAnswer}
+use Rattle.node.specs.OfferAnswer.{OfferAnswer}
+use Rattle.node.specs.DeliverAnswer.{DeliverAnswer}
+use Rattle.node.specs.SendAnswer as send_answer
+use Rattle.node.specs.OfferAnswer as offer_answer
+use Rattle.node.specs.DeliverAnswer as deliver_answer
 use Rattle.causality.specs.Demand3.{Issue, World, destination}
 use Rattle.world.specs.Steps.{AfterStep, after_delivered, after_offered, after_sent, body_output, deliver_step, exhausted}
 use Rattle.world.specs.Steps.{frame_output, offer_step, offer_to, refuse, send_step}

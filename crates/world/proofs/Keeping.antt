@@ -19,10 +19,9 @@ use Rattle.node.specs.declared.Node.{Node as Record}
 use Rattle.causality.specs.Demand3.{Answer, Issue, Step, World, after_call, issued_by, issued_frames}
 use Rattle.world.proofs.Logs.{joined_append, joined-one, joined-none}
 use Rattle.world.proofs.Reach.{IssuedFacts, issued-facts, reached-later}
-use Rattle.world.specs.declared.Outcome.{Outcome}
 use Rattle.world.specs.declared.World.{World as Stored}
 use Rattle.world.specs.Steps.{frames}
-use Rattle.world.specs.Stored.{BeginsWith, Holds, joined, no_record, queue_at, stored_after}
+use Rattle.world.specs.Stored.{Holds, joined, no_record, queue_at, stored_after}
 use Rattle.world.specs.Reached.{Reached}
 
 -- the issue at a place of the log
@@ -61,9 +60,6 @@ module _ (n : ℕ) (caps : ℕ → ℕ) (limit k : ℕ) (w : World) (s : Stored)
         length-map w.log (λ (g : Issue). g.frame),
       )
 
-  pub begins_with : (c : ℕ) → c ≤ length w.log → BeginsWith c l
-  begins_with c a = record { frames = frames w.log; many = omega (arith, length-map w.log (λ (g : Issue). g.frame)); begins = h.begins }
-
 -- nothing is done
 pub holds_later : (n : ℕ) (caps : ℕ → ℕ) (limit k : ℕ) (w : World) (s : Stored) (q l : List ℕ) → Holds n caps limit k w s q l → Holds n caps limit (k + 1) w s q l
 holds_later n caps limit k w s q l h = record {
@@ -82,11 +78,6 @@ holds_later n caps limit k w s q l h = record {
   begins = h.begins;
   end = h.end;
 }
-
--- an outcome and a stored world under another name
-pub as_stored : (n : ℕ) (caps : ℕ → ℕ) (limit k : ℕ) (w : World) (p o o' : Outcome) (s s' : Stored) (q l : List ℕ) → o' ≡ o → s' ≡ s → (o ≡ p) × Holds n caps limit k w s q l
-    → (o' ≡ p) × Holds n caps limit k w s' q l
-as_stored n caps limit k w p o o' s s' q l eo es d = (eo ∙ d.0, subst (λ (x : Stored). Holds n caps limit k w x q l) (sym es) d.1)
 
 -- a call at node i that issues nothing
 pub stored-still : (s : Stored) (i : ℕ) (r : Record) → stored_after s i r 0 0 ≡ record { n = s.n; nodes = set s.nodes i r; issued = s.issued; end = s.end }

@@ -1,26 +1,24 @@
 -- Frames end to end in a log: the frame at a place is found behind those before it. Assumes nothing.
-use Prim.Native.Nat.{ℕ, suc, ◌+◌, ◌-◌, ◌≤◌, ◌<◌}
+use Rattle.std.specs.Prelude.{Option, Some, None, unwrap_or}
+use Rattle.std.proofs.Common.{add-one}
+use Prim.Native.Nat.{ℕ, zero, suc, ◌+◌, ◌-◌, ◌≤◌, ◌<◌}
 use mathlib.Core.Bool.{Bool, cond, not, true, false}
 use mathlib.Core.Logic.{◌⊎◌, inl, inr}
 use mathlib.Core.List.{List, [], ◌∷◌, ◌++◌, append_assoc, append-nil}
 use mathlib.Core.Path.{◌≡◌, refl, sym, ap, ◌∙◌}
 use native.Mathlib.Omega.{arith}
-use lib.Dec.{T, eqb, leb, leb→le, nleb→lt}
-use borrow.Author.Tests.{eq-eqb, ne_eqb}
+use lib.Dec.{T, leb, leb→le, nleb→lt}
 use lib.ListN.{length, get_or, take, drop, length-append, take-append-drop}
 use lib.Seq.{take_all, take-suc, drop-cons, split_at, drop_at, take-append_seam, drop-length}
 use Rattle.wire.proofs.Tests.{decide}
 use Rattle.wire.proofs.Trailer.{trailed}
 use Rattle.frame.proofs.Passed.{passes_kept}
-use Rattle.frame.specs.Frame.{decode}
 use Rattle.frame.specs.Header.{header, own_length}
-use Rattle.frame.specs.declared.header.Header.{Header}
-use Rattle.matrix.specs.Message.{number}
 use Rattle.arrival.specs.CheckedFrame.{CheckedFrame}
 use Rattle.holdback.proofs.Slots.{header_append, own-least}
 use Rattle.causality.specs.Demand3.{Label}
 use Rattle.world.specs.Steps.{named, issue_from}
-use Rattle.world.specs.Stored.{joined, Begins}
+use Rattle.world.specs.Stored.{joined, some_issue, Begins, BeginsWith}
 
 -- a sound frame is as long as its own e and b say, and has at most 802 bytes
 checked-own : (s : List ℕ) → CheckedFrame s → own_length (header s) ≡ length s
@@ -105,6 +103,18 @@ log-part f l i at end b h e z =
       next = size ∙ ap (λ (k : ℕ). k + length s) e ∙ sym (length-append (joined (take i f)) s) ∙ sym (ap length (joined-suc f i h));
     }
 
+-- `at` is where the frames behind the first i begin, in bytes that begin with at least k frames
+abbrev pub Behind : ℕ → List ℕ → ℕ → ℕ → Type 0
+Behind k l i at = (f : List (List ℕ)) → Begins f l → k ≤ length f → at ≡ length (joined (take i f))
+
+-- a frame of a log that begins with at least k
+module _ {k : ℕ} {l : List ℕ} (b : BeginsWith k l) {i at : ℕ} (h : i < k) (here : Behind k l i at) where
+  pub begins-room : at + 8 ≤ length l
+  begins-room = log-room b.frames l i at b.begins (omega (arith, b.many)) (here b.frames b.begins b.many)
+
+  pub begins-part : {end : ℕ} → end ≡ at + own_length (header (drop at l)) → LogPart b.frames l i at end
+  begins-part {end} z = log-part b.frames l i at end b.begins (omega (arith, b.many)) (here b.frames b.begins b.many) z
+
 -- the search for an issue: the next frame is it, or the search goes on
 pub issue_hit : (a : Label) (j i : ℕ) (f : List (List ℕ)) → i < length f → named a j (get_or f i []) ≡ true → issue_from (i + 1) a j (drop i f) ≡ i + 1
 unfolding issue_from
@@ -124,38 +134,16 @@ issue-none a j i k f h g =
     let e : i ≡ length f = omega arith in
     ap (issue_from k a j) (ap (λ (x : ℕ). drop x f) e ∙ drop-length f)
 
--- the tests of a frame's name, one after the other
-module _ (a : Label) (j : ℕ) (s : List ℕ) (h : Header) (e : h ≡ header s) where
-  to-not : (h.to ≡ j → ⊥) → eqb (header s).to j ≡ false
-  to-not n = ap (λ (x : Header). eqb x.to j) (sym e) ∙ ne_eqb _ _ n
+-- what the search answers: the issue, or none
+pub some-hit : (k i : ℕ) → k ≡ i + 1 → Some (i + 1) ≡ some_issue k
+unfolding some_issue
+some-hit k i e = rw (e, add-one)
 
-  to_is : h.to ≡ j → eqb (header s).to j ≡ true
-  to_is q = ap (λ (x : Header). eqb x.to j) (sym e) ∙ eq-eqb _ _ q
+pub some-none : (k : ℕ) → k ≡ 0 → None ≡ some_issue k
+unfolding some_issue
+some-none k e = rw e
 
-  kind-not : (h.kind ≡ a.kind → ⊥) → eqb (header s).kind a.kind ≡ false
-  kind-not n = ap (λ (x : Header). eqb x.kind a.kind) (sym e) ∙ ne_eqb _ _ n
-
-  kind_is : h.kind ≡ a.kind → eqb (header s).kind a.kind ≡ true
-  kind_is q = ap (λ (x : Header). eqb x.kind a.kind) (sym e) ∙ eq-eqb _ _ q
-
-  from-not : (h.from ≡ a.from → ⊥) → eqb (header s).from a.from ≡ false
-  from-not n = ap (λ (x : Header). eqb x.from a.from) (sym e) ∙ ne_eqb _ _ n
-
-  from_is : h.from ≡ a.from → eqb (header s).from a.from ≡ true
-  from_is q = ap (λ (x : Header). eqb x.from a.from) (sym e) ∙ eq-eqb _ _ q
-
-  pub not-to : (h.to ≡ j → ⊥) → named a j s ≡ false
-  unfolding named
-  not-to n = rw (to-not n)
-
-  pub not-kind : h.to ≡ j → (h.kind ≡ a.kind → ⊥) → named a j s ≡ false
-  unfolding named
-  not-kind t n = rw (to_is t, kind-not n)
-
-  pub not-from : h.to ≡ j → h.kind ≡ a.kind → (h.from ≡ a.from → ⊥) → named a j s ≡ false
-  unfolding named
-  not-from t k n = rw (to_is t, kind_is k, from-not n)
-
-  pub by_number : h.to ≡ j → h.kind ≡ a.kind → h.from ≡ a.from → (k : ℕ) → k ≡ number (decode s) → eqb k a.number ≡ named a j s
-  unfolding named
-  by_number t k f v q = rw (to_is t, kind_is k, from_is f, q)
+pub some-or : (o : Option ℕ) (k : ℕ) → o ≡ some_issue k → unwrap_or o 0 ≡ k
+unfolding some_issue
+some-or o zero e = rw e
+some-or o (suc k) e = rw e

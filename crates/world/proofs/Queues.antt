@@ -13,8 +13,11 @@ use Rattle.holdback.specs.Slots.{queue_size}
 use Rattle.world.specs.Stored.{queue_at}
 use Rattle.world.specs.Start.{max_simulated}
 
--- the part of the queues from queue k to the next has 12,832 bytes
-pub wide : (k : ℕ) → queue_size * k + queue_size - queue_size * k ≡ queue_size
+-- the part of the queues from queue k to the next, of 12,832 bytes
+abbrev pub width : ℕ → ℕ
+width k = queue_size * k + queue_size - queue_size * k
+
+pub wide : (k : ℕ) → width k ≡ queue_size
 wide k = omega arith
 
 -- the queue of node i, where its width is given as a number

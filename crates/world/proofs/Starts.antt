@@ -15,8 +15,8 @@ use Rattle.rules.specs.Rules.{in_range}
 use Rattle.holdback.proofs.Slots.{length-zeros, zeros_add, zeros-drop}
 use Rattle.holdback.specs.Slots.{queue_size, zeros}
 use Rattle.node.specs.SetUp.{fresh_record, set_up}
-use Rattle.node.specs.declared.SetUp.{SetUp}
-use Rattle.node.specs.declared.SetUpAnswer.TheVariants.{Refused, Ready}
+use Rattle.node.specs.Answers.{SetUp}
+use Rattle.node.specs.SetUpAnswer.{Refused, Ready}
 use Rattle.causality.specs.Demand3.{start}
 use Rattle.world.proofs.Logs.{joined-none}
 use Rattle.world.specs.Stored.{Holds, fresh, log_size, no_record, queue_at}

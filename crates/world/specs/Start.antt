@@ -1,7 +1,6 @@
 -- Whether a simulation can start: it has two to four nodes, and set-up takes the cap of each.
 use Rattle.std.specs.Prelude.{ℕ, Bool, true, false, ◌&&◌, ◌||◌, List, leb, get_or}
-use Rattle.node.specs.declared.SetUpAnswer.{SetUpAnswer}
-use Rattle.node.specs.declared.SetUpAnswer.TheVariants.{Refused, Ready}
+use Rattle.node.specs.SetUpAnswer.{SetUpAnswer, Refused, Ready}
 use Rattle.node.specs.SetUp.{set_up}
 
 -- the cap of node i, 0 where the list has none

@@ -5,18 +5,18 @@ use Rattle.std.proofs.Math.ListN.{get_elem?}
 use Rattle.wire.specs.Limits.{max_body}
 use Rattle.holdback.specs.Slots.{zeros}
 use Rattle.rights.specs.Rights.{mover}
-use Rattle.node.specs.declared.SendAnswer.{SendAnswer}
-use Rattle.node.specs.declared.OfferAnswer.{OfferAnswer}
-use Rattle.node.specs.declared.DeliverAnswer.{DeliverAnswer}
-use Rattle.node.specs.declared.SendAnswer.TheVariants as send_answer
-use Rattle.node.specs.declared.OfferAnswer.TheVariants as offer_answer
-use Rattle.node.specs.declared.DeliverAnswer.TheVariants as deliver_answer
+use Rattle.node.specs.SendAnswer.{SendAnswer}
+use Rattle.node.specs.OfferAnswer.{OfferAnswer}
+use Rattle.node.specs.DeliverAnswer.{DeliverAnswer}
+use Rattle.node.specs.SendAnswer as send_answer
+use Rattle.node.specs.OfferAnswer as offer_answer
+use Rattle.node.specs.DeliverAnswer as deliver_answer
 use Rattle.node.specs.Answers.{AfterSend, AfterOffer, AfterDeliver}
 use Rattle.node.specs.Sizes.{out_size}
 use Rattle.node.specs.Calls.{send_call, offer_call, deliver_call}
 use Rattle.causality.specs.Demand3.{World, Issue, Label, sends, offers, delivers, send_at, offer_at, deliver_at, label, destination}
-use Rattle.world.specs.declared.Outcome.{Outcome}
-use Rattle.world.specs.declared.Outcome.TheVariants as outcome
+use Rattle.world.specs.Outcome.{Outcome}
+use Rattle.world.specs.Outcome as outcome
 
 -- the buffers lent to a step's call
 abbrev pub frame_output : List ℕ

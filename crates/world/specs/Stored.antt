@@ -1,5 +1,5 @@
 -- How the world of a list is stored: the records in a struct, the hold-back queues end to end, and the issued frames end to end.
-use Rattle.std.specs.Prelude.{ℕ, ◌+◌, ◌*◌, ◌<◌, ◌≤◌, List, [], ◌∷◌, ◌++◌, ◌≡◌, length, get_or, set, take, drop}
+use Rattle.std.specs.Prelude.{ℕ, zero, suc, Option, None, Some, ◌+◌, ◌*◌, ◌<◌, ◌≤◌, List, [], ◌∷◌, ◌++◌, ◌≡◌, length, get_or, set, take, drop}
 use Rattle.wire.specs.Limits.{max_frame}
 use Rattle.matrix.specs.Message.{EachInRange}
 use Rattle.arrival.specs.CheckedFrame.{CheckedFrame}
@@ -8,7 +8,6 @@ use Rattle.node.specs.declared.Node.{Node as Record}
 use Rattle.node.specs.SetUp.{set_up}
 use Rattle.node.specs.Sizes.{out_size}
 use Rattle.causality.specs.Demand3.{World}
-use Rattle.world.specs.declared.Stepped.{Stepped}
 use Rattle.world.specs.declared.World.{World as Stored}
 use Rattle.world.specs.Start.{cap_of, max_simulated}
 use Rattle.world.specs.Reached.{Reached}
@@ -37,6 +36,11 @@ pub record BeginsWith (k : ℕ) (l : List ℕ) : Type 0 where
   pub frames : List (List ℕ)
   pub many : k ≤ length frames
   pub begins : Begins frames l
+
+-- the issue that a search of the log answers, which counts from 1 and has 0 for none
+unfoldable pub some_issue : ℕ → Option ℕ
+some_issue zero = None
+some_issue (suc k) = Some (suc k)
 
 -- the queue of node i among queues that lie end to end
 unfoldable pub queue_at : List ℕ → ℕ → List ℕ
@@ -89,7 +93,3 @@ StandingRecords limit s l = (q : List ℕ) × Standing limit s q l
 -- the record r in place of node i's, and so many frames and bytes more
 abbrev pub stored_after : Stored → ℕ → Record → ℕ → ℕ → Stored
 stored_after s i r count bytes = record { n = s.n; nodes = set s.nodes i r; issued = s.issued + count; end = s.end + bytes }
-
--- a stored world after a step: its record stands at its node, its counts are those of the world
-abbrev pub stored_by : Stored → Stepped → Stored
-stored_by s r = record { n = s.n; nodes = set s.nodes r.at r.node; issued = r.issued; end = r.end }

@@ -5,6 +5,7 @@ ghost use Rattle.std.specs.Prelude.{◌≡◌};
 ghost use Rattle.xorshift.specs.Xorshift.{next};
 
 /// The number that the generator draws after x.
+#[tactic(auto, unfolding(crate::specs::Xorshift::next))]
 pub fn next(x: u32) -> u32
     ensures { result ≡ next x }
 {

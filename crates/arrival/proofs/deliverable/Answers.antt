@@ -1,7 +1,6 @@
 -- The loop has passed the entries before entry k, each of which is ready. Assumes nothing.
 use mathlib.Core.Path.{◌∙◌, sym}
 use native.Mathlib.Nat.{sub-zero}
-use native.Mathlib.Omega.{arith}
 use borrow.Author.Rules.{rules}
 use Rattle.arrival.proofs.Arrived.{deliverable-walk}
 use Rattle.arrival.proofs.Sound.{entry-room, header-room, inside-read}
@@ -16,7 +15,7 @@ pub read-h-requires : goal.read-h-requires
 read-h-requires c = header-room c.args.s.now c.requires
 
 pub loop-k-init : goal.loop-k-init
-loop-k-init c = (omega arith, rw sub-zero)
+loop-k-init c = rw sub-zero
 
 pub read-a-requires : goal.read-a-requires
 read-a-requires c = entry-room c.args.s.now c.read-h.result c.loop-k.k c.requires c.read-h.ensures (search rules)
@@ -33,19 +32,17 @@ returns-then-not-entry_ready c =
     let waits = denied _ _ c.entry_ready.ensures (not_from_false _ c.if-not-entry_ready.true) in
     let fails = every_fails (ready a.me (vector a.deliv.now)) a.s.now c.loop-k.k c.read-h.result.e c.read-a.result
     (search rules) c.read-a.ensures waits in
-    λ n cap m l. sym (deliverable-walk a.s.now c.read-h.result a.me a.deliv.now c.requires c.read-h.ensures n cap m l ∙ c.loop-k.invariant.1 ∙ fails)
+    λ n cap m l. sym (deliverable-walk a.s.now c.read-h.result a.me a.deliv.now c.requires c.read-h.ensures n cap m l ∙ c.loop-k.invariant ∙ fails)
 
 pub loop-k-preserved : goal.loop-k-preserved
 loop-k-preserved c =
     let a = c.args in
-    let goes = passed _ _ c.entry_ready.ensures (not_from_true _ c.if-not-entry_ready.false) in (
-      search rules,
-      c.loop-k.invariant.1 ∙ every_passed (ready a.me (vector a.deliv.now)) a.s.now c.loop-k.k c.read-h.result.e c.read-a.result
-          (search rules) c.read-a.ensures goes,
-    )
+    let goes = passed _ _ c.entry_ready.ensures (not_from_true _ c.if-not-entry_ready.false) in
+    c.loop-k.invariant ∙ every_passed (ready a.me (vector a.deliv.now)) a.s.now c.loop-k.k c.read-h.result.e c.read-a.result
+    (search rules) c.read-a.ensures goes
 
 pub returns : goal.returns
 returns c =
     let a = c.args in
     let end = every_end (ready a.me (vector a.deliv.now)) a.s.now c.loop-k.k c.read-h.result.e (search rules) in
-    λ n cap m l. sym (deliverable-walk a.s.now c.read-h.result a.me a.deliv.now c.requires c.read-h.ensures n cap m l ∙ c.loop-k.invariant.1 ∙ end)
+    λ n cap m l. sym (deliverable-walk a.s.now c.read-h.result a.me a.deliv.now c.requires c.read-h.ensures n cap m l ∙ c.loop-k.invariant ∙ end)

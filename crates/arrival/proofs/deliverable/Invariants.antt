@@ -1,5 +1,5 @@
 -- The loop has passed the entries before entry k, each of which is ready. Assumes nothing.
-use Prim.Native.Nat.{◌-◌, ◌≤◌}
+use Prim.Native.Nat.{◌-◌}
 use mathlib.Core.Path.{◌≡◌}
 use Rattle.arrival.proofs.Walks.{every_entry}
 use Rattle.matrix.specs.Array.{vector}
@@ -8,7 +8,4 @@ use Rattle.frame.specs.Entries.{entries_from}
 use Rattle.arrival.proofs.deliverable.Given as goal
 
 abbrev pub invariant-loop-k : goal.invariant-loop-k
-invariant-loop-k l = (l.k ≤ l.e) × (every_entry (ready l.me (vector l.deliv)) (entries_from l.s 0 l.e) ≡ every_entry (ready l.me (vector l.deliv)) (entries_from l.s l.k (l.e - l.k)))
-
-abbrev pub decreases-loop-k : goal.decreases-loop-k
-decreases-loop-k l = l.e - l.k
+invariant-loop-k l = (every_entry (ready l.me (vector l.deliv)) (entries_from l.s 0 l.e) ≡ every_entry (ready l.me (vector l.deliv)) (entries_from l.s l.k (l.e - l.k)))

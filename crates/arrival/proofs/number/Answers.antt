@@ -11,7 +11,7 @@ pub read-h-requires : goal.read-h-requires
 read-h-requires c = header-room c.args.s.now c.requires
 
 pub loop-k-init : goal.loop-k-init
-loop-k-init c = (omega arith, rw sub-zero)
+loop-k-init c = rw sub-zero
 
 pub read-a-requires : goal.read-a-requires
 read-a-requires c = entry-room c.args.s.now c.read-h.result c.loop-k.k c.requires c.read-h.ensures (search rules)
@@ -28,20 +28,18 @@ returns-then-stands_at c =
     let h = c.read-h.result in
     let here = sym c.stands_at.ensures ∙ c.if-stands_at.true in
     let found = look_found a.s.now c.loop-k.k h.e h.from h.to c.read-a.result (search rules) c.read-a.ensures here in
-    omega (arith, number_look a.s.now h c.read-h.ensures, c.loop-k.invariant.1, found)
+    omega (arith, number_look a.s.now h c.read-h.ensures, c.loop-k.invariant, found)
 
 pub loop-k-preserved : goal.loop-k-preserved
 loop-k-preserved c =
     let h = c.read-h.result in
-    let other = sym c.stands_at.ensures ∙ c.if-stands_at.false in (
-      search rules,
-      c.loop-k.invariant.1 ∙ look_passed c.args.s.now c.loop-k.k h.e h.from h.to c.read-a.result
-          (search rules) c.read-a.ensures other,
-    )
+    let other = sym c.stands_at.ensures ∙ c.if-stands_at.false in
+    c.loop-k.invariant ∙ look_passed c.args.s.now c.loop-k.k h.e h.from h.to c.read-a.result
+    (search rules) c.read-a.ensures other
 
 pub returns : goal.returns
 returns c =
     let a = c.args in
     let h = c.read-h.result in
     let end = look_end a.s.now c.loop-k.k h.e h.from h.to (search rules) in
-    omega (arith, number_look a.s.now h c.read-h.ensures, c.loop-k.invariant.1, end)
+    omega (arith, number_look a.s.now h c.read-h.ensures, c.loop-k.invariant, end)

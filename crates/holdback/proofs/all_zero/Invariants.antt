@@ -1,5 +1,5 @@
 -- The bytes of both halves before step at are or-ed to acc. Assumes nothing.
-use Prim.Native.Nat.{◌-◌, ◌+◌, ◌≤◌}
+use Prim.Native.Nat.{◌+◌}
 use mathlib.Core.Bool.{◌&&◌}
 use mathlib.Core.Path.{◌≡◌}
 use lib.Dec.{eqb}
@@ -9,7 +9,4 @@ use Rattle.holdback.specs.Steps.{all_zero}
 use Rattle.holdback.proofs.all_zero.Given as goal
 
 abbrev pub invariant-loop-at : goal.invariant-loop-at
-invariant-loop-at l = (l.at ≤ l.high) × (l.low + l.high ≡ length l.s) × (all_zero l.s ≡ (eqb l.acc 0 && halves l.s l.low l.high l.at))
-
-abbrev pub decreases-loop-at : goal.decreases-loop-at
-decreases-loop-at l = l.high - l.at
+invariant-loop-at l = (l.low + l.high ≡ length l.s) × (all_zero l.s ≡ (eqb l.acc 0 && halves l.s l.low l.high l.at))

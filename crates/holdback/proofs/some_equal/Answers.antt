@@ -1,21 +1,26 @@
 -- No key before place i is equal to a later one. Assumes nothing.
-use mathlib.Core.Path.{◌∙◌, refl, sym}
+use Prim.Native.Nat.{◌+◌, ◌-◌, ℕ}
+use mathlib.Core.List.{List}
+use mathlib.Core.Path.{◌∙◌, sym}
+use lib.ListN.{drop, get_or, length, take}
 use borrow.Author.Rules.{rules}
-use Rattle.holdback.proofs.Pairs.{equal_end, equal_hit, equal_next}
+use Rattle.holdback.proofs.Pairs.{equal_end, equal_hit, equal_next, among-any}
+use Rattle.wire.proofs.Bytes.{rest-lent}
 use Rattle.holdback.proofs.some_equal.Goals as goal
 
-pub loop-i-init : goal.loop-i-init
-loop-i-init c = (search rules, refl)
-
-pub returns-then-among : goal.returns-then-among
-returns-then-among c =
-    let l = c.args.keys.now in
-    sym (c.loop-i.invariant.1 ∙ equal_hit l c.loop-i.i (search rules) (sym c.among.ensures ∙ c.if-among.true))
+pub returns-then-contains : goal.returns-then-contains
+returns-then-contains c =
+    let l : List ℕ = c.args.keys.now in
+    let i : ℕ = c.loop-i.i in
+    let found = among-any (get_or l i 0) (take (length l - (i + 1)) (drop (i + 1) l)) ∙ sym c.contains.ensures.value ∙ c.if-contains.true in
+    sym (c.loop-i.invariant ∙ equal_hit l i (search rules) (rw rest-lent at found))
 
 pub loop-i-preserved : goal.loop-i-preserved
 loop-i-preserved c =
-    let l = c.args.keys.now in
-    (search rules, c.loop-i.invariant.1 ∙ equal_next l c.loop-i.i (search rules) (sym c.among.ensures ∙ c.if-among.false))
+    let l : List ℕ = c.args.keys.now in
+    let i : ℕ = c.loop-i.i in
+    let none = among-any (get_or l i 0) (take (length l - (i + 1)) (drop (i + 1) l)) ∙ sym c.contains.ensures.value ∙ c.if-contains.false in
+    c.loop-i.invariant ∙ equal_next l i (search rules) (rw rest-lent at none)
 
 pub returns : goal.returns
-returns c = sym (c.loop-i.invariant.1 ∙ equal_end c.args.keys.now c.loop-i.i c.loop-i-test.false)
+returns c = sym (c.loop-i.invariant ∙ equal_end c.args.keys.now c.loop-i.i c.loop-i-test.false)

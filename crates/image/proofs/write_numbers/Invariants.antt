@@ -1,5 +1,5 @@
 -- The loop has written the numbers before place k, and the rest is still to be written. Assumes nothing.
-use Prim.Native.Nat.{◌*◌, ◌+◌, ◌-◌, ◌≤◌}
+use Prim.Native.Nat.{◌*◌, ◌+◌}
 use mathlib.Core.Path.{◌≡◌}
 use lib.ListN.{drop, length}
 use Rattle.wire.specs.Bytes.{put}
@@ -7,7 +7,4 @@ use Rattle.image.specs.Image.{fields}
 use Rattle.image.proofs.write_numbers.Given as goal
 
 abbrev pub invariant-loop-k : goal.invariant-loop-k
-invariant-loop-k l = (l.k ≤ length l.a) × (length l.s ≡ length l.initial.s) × (put l.s (l.at + 4 * l.k) (fields (drop l.k l.a)) ≡ put l.initial.s l.at (fields l.a))
-
-abbrev pub decreases-loop-k : goal.decreases-loop-k
-decreases-loop-k l = length l.a - l.k
+invariant-loop-k l = (length l.s ≡ length l.initial.s) × (put l.s (l.at + 4 * l.k) (fields (drop l.k l.a)) ≡ put l.initial.s l.at (fields l.a))

@@ -28,7 +28,7 @@ returns-then-v-me-ne0 c = sym (own-count _ _ _ _ _ _ c.if-v-me-ne0.true)
 pub counts_ok-requires : goal.counts_ok-requires
 counts_ok-requires c =
     let r = ranged _ _ _ (passed _ _ c.in_range.ensures (not_from_true _ c.if-not-in_range.false)) in
-    (c.requires.0, c.requires.1, omega (arith, r.below, r.at_most12), r.at_most12)
+    (omega (arith, r.below, r.at_most12), r.at_most12)
 
 pub returns : goal.returns
 returns c =

@@ -1,27 +1,13 @@
--- The loop has tested the columns before y. Assumes nothing.
-use Prim.Native.Nat.{ℕ}
-use mathlib.Core.Path.{◌∙◌, ◌≡◌, ap, sym}
-use native.Mathlib.Omega.{arith}
-use borrow.Author.Rules.{rules}
+-- Not each of the row is below the limit. Assumes nothing.
+use Rattle.std.proofs.Common.{arith, rules, ap, not, ◌∙◌}
 use lib.Dec.{eqb}
-use Rattle.matrix.proofs.Array.{entry_in}
 use Rattle.matrix.specs.Array.{entry}
-use Rattle.protocol.specs.Node.{some_below}
-use Rattle.rules.proofs.Passes.{some_turn}
 use Rattle.wire.specs.Limits.{max_count}
+use Rattle.rules.proofs.Passes.{not_each, row_places}
 use Rattle.rules.proofs.row_at_limit.Goals as goal
-
-pub loop-y-preserved : goal.loop-y-preserved
-loop-y-preserved c =
-    let a = c.args in
-    let y = c.loop-y.y in (
-      search rules,
-      some_turn y (λ b. eqb (entry a.m.now a.me b) max_count) _ _ _ c.loop-y.invariant.1
-          (ap (λ (v : ℕ). eqb v max_count) (sym (entry_in a.m.now a.me y (search rules) (search rules)))) c.either-found.ensures,
-    )
 
 pub returns : goal.returns
 returns c =
     let a = c.args in
-    let end : c.loop-y.y ≡ 12 = omega arith in
-    c.loop-y.invariant.1 ∙ ap (λ (k : ℕ). some_below k (λ c. eqb (entry a.m.now a.me c) max_count)) end
+    ap not (c.each.ensures (λ v. not (eqb v max_count)) (λ v b h q. search rules) ∙ row_places (λ v. not (eqb v max_count)) a.m.now a.me _ (search rules) c.requires (omega arith))
+    ∙ not_each 12 (λ y. eqb (entry a.m.now a.me y) max_count)

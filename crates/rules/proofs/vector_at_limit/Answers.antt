@@ -1,22 +1,12 @@
--- The loop has tested the counts before x. Assumes nothing.
-use Prim.Native.Nat.{ℕ}
-use mathlib.Core.Path.{◌∙◌, ◌≡◌, ap, refl}
-use native.Mathlib.Omega.{arith}
-use borrow.Author.Rules.{rules}
+-- Not each of the vector is below the limit. Assumes nothing.
+use Rattle.std.proofs.Common.{rules, ap, not, ◌∙◌}
 use lib.Dec.{eqb}
 use Rattle.matrix.specs.Array.{vector}
-use Rattle.protocol.specs.Node.{some_below}
-use Rattle.rules.proofs.Passes.{some_turn}
 use Rattle.wire.specs.Limits.{max_count}
+use Rattle.rules.proofs.Passes.{not_each, vector_places}
 use Rattle.rules.proofs.vector_at_limit.Goals as goal
-
-pub loop-x-preserved : goal.loop-x-preserved
-loop-x-preserved c =
-    let v = c.args.v.now in
-    (search rules, some_turn c.loop-x.x (λ a. eqb (vector v a) max_count) _ _ _ c.loop-x.invariant.1 refl c.either-found.ensures)
 
 pub returns : goal.returns
 returns c =
-    let v = c.args.v.now in
-    let end : c.loop-x.x ≡ 12 = omega arith in
-    c.loop-x.invariant.1 ∙ ap (λ (k : ℕ). some_below k (λ a. eqb (vector v a) max_count)) end
+    let a = c.args in
+    ap not (c.each.ensures (λ v. not (eqb v max_count)) (λ v b h q. search rules) ∙ vector_places (λ v. not (eqb v max_count)) a.v.now (search rules)) ∙ not_each 12 (λ x. eqb (vector a.v.now x) max_count)

@@ -1,104 +1,54 @@
 -- Line by line: what is printed so far and the definition on what is left make the whole output. Assumes nothing.
-use Prim.Native.Nat.{◌+◌, ◌-◌, ◌≤◌}
-use mathlib.Core.Path.{◌≡◌, refl, ◌∙◌}
+use mathlib.Core.Bool.{not}
+use mathlib.Core.Path.{◌∙◌, ap, refl}
 use native.Mathlib.Omega.{arith}
-use borrow.Author.Rules.{rules}
-use lib.ListN.{length, take, drop, length-drop}
-use lib.Seq.{length-take-le}
-use Rattle.simulation.specs.Run.{output_size}
-use Rattle.simulation.proofs.Lines.{Running, running_ends, running_goes, running_standing, running_starts}
+use Rattle.simulation.proofs.Lines.{parted-length, running_ends, running_goes, running_standing, running_starts}
 use Rattle.simulation.proofs.run_lines.Goals as goal
 
-pub loop-end-init : goal.loop-end-init
-loop-end-init c = (
-  search rules,
-  c.find-end.ensures.0,
-  c.find-end.ensures.1,
-  refl,
-  refl,
-  refl,
-  omega arith,
-  λ n caps h. running_starts n caps _ _ _ _ _ _ h c.no_counters-counters.ensures,
-)
+pub loop-line-init : goal.loop-line-init
+loop-line-init c = (refl, refl, refl, omega arith, λ n caps h. running_starts n caps _ _ _ _ _ h c.default-counters.ensures)
 
-pub slice_bounds-take-count : goal.slice_bounds-take-count
-slice_bounds-take-count c = omega (arith, c.loop-end.invariant.1)
-
-pub take-t-requires : goal.take-t-requires
-take-t-requires c =
-    let turn : let p = c.requires.0 in
-    Running p.n p.caps c.args.input.now
-    c.args.from c.args.out.now
-    c.loop-end.yard c.loop-end.queues c.loop-end.log c.loop-end.out c.loop-end.at c.loop-end.pos =
-    let p = c.requires.0 in c.loop-end.invariant.7 p.n p.caps p.holds
-    in
-    let r = turn in
-    let p = c.requires in (
-      running_standing _ _ _ _ _ _ _ _ _ _ _ r (omega (arith, c.loop-end.invariant.0, p.2)),
-      omega (arith, c.loop-end.invariant.0, c.loop-end.invariant.5, c.loop-end.invariant.6, r.stands.world.issued, r.stands.world.below, p.2, p.3),
+pub take-end-requires : goal.take-end-requires
+take-end-requires c =
+    let p = c.requires in
+    let i = c.loop-line.invariant in
+    let r = i.4 p.0.n p.0.caps p.0.holds in (
+      running_standing _ _ _ _ _ _ _ _ _ _ r (omega (arith, p.1)),
+      omega (arith, i.2, i.3, r.stands.world.issued, r.stands.world.below, p.1, p.2),
     )
 
-pub loop-end-smaller : goal.loop-end-smaller
-loop-end-smaller c = omega (arith, c.loop-end.invariant.1)
+pub loop-line-smaller : goal.loop-line-smaller
+loop-line-smaller c = omega (arith, parted-length _ _ _ c.in-Some.ensures)
 
-pub loop-end-preserved : goal.loop-end-preserved
-loop-end-preserved c =
-    let t = c.take-t in
-    let long : length (take (c.loop-end.end - c.loop-end.at) (drop c.loop-end.at c.args.input.now))
-    ≡ c.loop-end.end - c.loop-end.at = length-take-le _ _
-    (omega (arith, length-drop c.loop-end.at c.args.input.now, c.loop-end.invariant.2)) in (
-      omega arith,
-      c.find-end-in-loop-end.ensures.0,
-      c.find-end-in-loop-end.ensures.1,
-      t.auto.queues ∙ c.loop-end.invariant.3,
-      t.auto.log ∙ c.loop-end.invariant.4,
-      t.auto.out ∙ c.loop-end.invariant.5,
-      omega (arith, t.ensures.0, long, c.loop-end.invariant.1, c.loop-end.invariant.6),
+pub loop-line-preserved : goal.loop-line-preserved
+loop-line-preserved c =
+    let t = c.take-end in
+    let i = c.loop-line.invariant in
+    let e = c.in-Some.ensures in
+    let l = parted-length _ _ _ e in (
+      t.auto.queues ∙ i.0,
+      t.auto.log ∙ i.1,
+      t.auto.out ∙ i.2,
+      omega (arith, t.ensures.0, i.3, l),
       λ n caps h.
-          let r = c.loop-end.invariant.7 n caps h in
-          running_goes n caps _ _ _ _ _ _ _ _ _ _ r c.loop-end.invariant.1 (omega arith) _ _ _ _ (t.ensures.1 n caps r.steps r.yard
-          (omega (arith, r.few, c.loop-end.invariant.0, c.requires.2)) r.stands),
+          let r = i.4 n caps h in
+          running_goes n caps _ _ _ _ _ _ _ _ r _ _ e _ _ _ _ _
+          (t.ensures.1 n caps r.steps r.yard (omega (arith, r.few, c.requires.1, l)) r.stands),
     )
 
 pub put_ending-requires : goal.put_ending-requires
 put_ending-requires c =
-    let turn : let p = c.requires.0 in
-    Running p.n p.caps c.args.input.now
-    c.args.from c.args.out.now
-    c.loop-end.yard c.loop-end.queues c.loop-end.log c.loop-end.out c.loop-end.at c.loop-end.pos =
-    let p = c.requires.0 in c.loop-end.invariant.7 p.n p.caps p.holds
-    in
-    let room-left : c.loop-end.pos + 63 ≤ output_size =
-    let r = turn in
     let p = c.requires in
-    omega (arith, c.loop-end.invariant.0, c.loop-end.invariant.6, r.stands.world.issued, r.stands.world.below, p.2)
-    in
-    omega (arith, room-left, c.loop-end.invariant.5, c.requires.3)
-
-pub shape_of-queues : goal.shape_of-queues
-shape_of-queues c = c.loop-end.invariant.3
-
-pub shape_of-log : goal.shape_of-log
-shape_of-log c = c.loop-end.invariant.4
-
-pub shape_of-out : goal.shape_of-out
-shape_of-out c = c.put_ending.auto.out ∙ c.loop-end.invariant.5
+    let i = c.loop-line.invariant in
+    let r = i.4 p.0.n p.0.caps p.0.holds in
+    omega (arith, i.2, i.3, r.stands.world.issued, r.stands.world.below, p.1, p.2)
 
 pub returns : goal.returns
 returns c =
-    let turn : let p = c.requires.0 in
-    Running p.n p.caps c.args.input.now
-    c.args.from c.args.out.now
-    c.loop-end.yard c.loop-end.queues c.loop-end.log c.loop-end.out c.loop-end.at c.loop-end.pos =
-    let p = c.requires.0 in c.loop-end.invariant.7 p.n p.caps p.holds
-    in
-    let room-left : c.loop-end.pos + 63 ≤ output_size =
-    let r = turn in
     let p = c.requires in
-    omega (arith, c.loop-end.invariant.0, c.loop-end.invariant.6, r.stands.world.issued, r.stands.world.below, p.2)
-    in
-    let r = c.put_ending.ensures in (
-      omega (arith, r.0, room-left),
-      λ n caps h. running_ends n caps _ _ _ _ _ _ _ _ _ c.loop-end.end (c.loop-end.invariant.7 n caps h) c.loop-end.invariant.1 (omega (arith, c.loop-end.invariant.2))
-          c.loop-end.invariant.0 _ refl _ _ r.1.0 r.1.1,
+    let i = c.loop-line.invariant in
+    let r = i.4 p.0.n p.0.caps p.0.holds in
+    let e = c.put_ending.ensures in (
+      omega (arith, e.0, i.3, r.stands.world.issued, r.stands.world.below, p.1),
+      λ n caps h. running_ends n caps _ _ _ _ _ _ _ _ (i.4 n caps h) c.in_default.ensures _ (ap not c.is_empty.ensures) _ _ e.1,
     )

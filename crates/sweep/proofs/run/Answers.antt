@@ -1,10 +1,11 @@
 -- The tests in order, then the table. Assumes nothing.
+use Rattle.std.specs.Prelude.{Option}
 use mathlib.Core.Path.{◌∙◌, ap, sym}
 use native.Mathlib.Nat.{zero-add}
 use native.Mathlib.Omega.{arith}
 use Rattle.text.proofs.Print.{run_short, run-written}
-use Rattle.request.specs.declared.Request.{Request}
-use Rattle.request.proofs.Laws.{InRange, in_range_lem}
+use Rattle.request.specs.declared.Load.{Load}
+use Rattle.request.proofs.Laws.{in_range_lem}
 use Rattle.sweep.specs.Load.{answered, printed}
 use Rattle.sweep.specs.Run.{run_call}
 use Rattle.sweep.proofs.Outputs.{answered-refused, answered-table}
@@ -19,38 +20,36 @@ unfolding run_call
 returns-then-is_wrong c =
     let r = c.put_refusal.ensures in
     let w = sym c.is_wrong.ensures ∙ c.if-is_wrong.true in (
-      run-written _ _ _ (omega arith) _ (ap (λ (x : Request). printed (answered x)) (sym c.parse-asked.ensures)
+      run-written _ _ _ (omega arith) _ (ap (λ (x : Option Load). printed (answered x)) (sym c.parse-asked.ensures)
           ∙ ap printed (answered-refused _ w)) _ _ (r.1.0 ∙ zero-add _) r.1.1,
       omega (arith, r.0),
     )
 
-pub overflow_cast-seed : goal.overflow_cast-seed
-overflow_cast-seed c =
-    let ranges : InRange c.in-Load.n c.in-Load.seed c.in-Load.draws =
-    in_range_lem _ _ _ _ c.in-Load.is (sym c.is_wrong.ensures ∙ c.if-is_wrong.false) in
-    let g = ranges in omega (arith, g.bits32)
+pub overflow_cast-load : goal.overflow_cast-load
+overflow_cast-load c =
+    let g = in_range_lem _ _ c.in-Some.is (sym c.is_wrong.ensures ∙ c.if-is_wrong.false) in
+    record { fits = g.bits32 }
 
 pub put_table-requires : goal.put_table-requires
 put_table-requires c =
-    let ranges : InRange c.in-Load.n c.in-Load.seed c.in-Load.draws =
-    in_range_lem _ _ _ _ c.in-Load.is (sym c.is_wrong.ensures ∙ c.if-is_wrong.false) in
-    let g = ranges in (g.two_nodes, g.four_nodes, g.few_draws, omega arith)
+    let g = in_range_lem _ _ c.in-Some.is (sym c.is_wrong.ensures ∙ c.if-is_wrong.false) in
+    (g.two_nodes, g.four_nodes, g.few_draws, omega arith)
 
-pub returns-in-Load : goal.returns-in-Load
+pub returns-in-Some : goal.returns-in-Some
 unfolding run_call
-returns-in-Load c =
+returns-in-Some c =
     let r = c.put_table.ensures in
-    let w = sym c.is_wrong.ensures
-    ∙ c.if-is_wrong.false in (
-      run-written _ _ _ (omega arith) _ (ap (λ (x : Request). printed (answered x)) (sym c.parse-asked.ensures) ∙ ap printed (answered-table _ _ _ _ c.in-Load.is w)) _ _ r.1.0
-          r.1.1,
+    let w = sym c.is_wrong.ensures ∙ c.if-is_wrong.false in (
+      run-written _ _ _ (omega arith) _ (ap (λ (x : Option Load). printed (answered x)) (sym c.parse-asked.ensures)
+          ∙ ap printed (answered-table _ _ c.in-Some.is w)) _ _ r.1.0 r.1.1,
       r.0,
     )
 
-pub returns-in-Other : goal.returns-in-Other
+pub returns-in-None : goal.returns-in-None
 unfolding run_call answered
-returns-in-Other c =
-    let r = c.put_refusal-in-Other.ensures in (
-      run-written _ _ _ (omega arith) _ (ap (λ (x : Request). printed (answered x)) (sym c.parse-asked.ensures ∙ c.in-Other.is)) _ _ (r.1.0 ∙ zero-add _) r.1.1,
+returns-in-None c =
+    let r = c.put_refusal-in-None.ensures in (
+      run-written _ _ _ (omega arith) _ (ap (λ (x : Option Load). printed (answered x)) (sym c.parse-asked.ensures ∙ c.in-None.is)) _ _
+          (r.1.0 ∙ zero-add _) r.1.1,
       omega (arith, r.0),
     )

@@ -1,36 +1,21 @@
--- The digits before place i make the number v, which has at most i digits. Assumes nothing.
-use mathlib.Core.Path.{◌∙◌, sym}
-use borrow.Author.Rules.{rules}
-use Rattle.wire.proofs.Tests.{denied, passed}
-use Rattle.text.proofs.Fields.{continued-ends, continued_goes, continued-stops, digit_range, digits-below}
-use Rattle.text.proofs.Fields.{digits-fit, value-empty, value-long, value-whole}
-use Rattle.std.proofs.lemmas.Bool.{not_from_true, not_from_false}
+-- The digits before byte b make the number v, which has at most as many digits. Assumes nothing.
+use Rattle.std.proofs.Common.{arith, get_or, sym, ◌∙◌}
+use Rattle.std.proofs.lemmas.Grind.{common_steps}
+use Rattle.std.specs.Char.{IsAsciiDigit}
+use Rattle.text.proofs.Fields.{continued_goes, digits-below, digits-fit}
 use Rattle.text.proofs.value.Goals as goal
 
-pub returns-then-s-eq0 : goal.returns-then-s-eq0
-returns-then-s-eq0 c = sym (value-empty _ _ c.if-s-eq0.true)
+pub overflow_mul-v : goal.overflow_mul-v
+overflow_mul-v c = record { fits = omega (arith, digits-fit c.loop-b.v c.loop-b.b-index c.loop-b.invariant.0 (omega arith)) }
 
-pub returns-then-most-s : goal.returns-then-most-s
-returns-then-most-s c = sym (value-long _ _ (search rules))
+pub overflow_add-v : goal.overflow_add-v
+overflow_add-v c =
+    let digit : IsAsciiDigit (get_or c.args.s.now c.loop-b.b-index 0) = grind (arith, common_steps) in
+    record { fits = omega (arith, digits-fit c.loop-b.v c.loop-b.b-index c.loop-b.invariant.0 (omega arith)) }
 
-pub loop-i-init : goal.loop-i-init
-loop-i-init c = (search rules, search rules, sym (value-whole _ _ (search rules) (search rules)))
-
-pub returns-then-not-is_digit : goal.returns-then-not-is_digit
-returns-then-not-is_digit c = sym (sym c.loop-i.invariant.2 ∙ continued-stops c.loop-i.v _ c.loop-i.i (search rules) (denied _ _ c.is_digit.ensures (not_from_false _ c.if-not-is_digit.true)))
-
-pub with_digit-v-requires : goal.with_digit-v-requires
-with_digit-v-requires c =
-    let d = digit_range _ (passed _ _ c.is_digit.ensures (not_from_true _ c.if-not-is_digit.false)) in
-    (d.0, d.1, digits-fit c.loop-i.v c.loop-i.i c.loop-i.invariant.1 (search rules))
-
-pub loop-i-preserved : goal.loop-i-preserved
-loop-i-preserved c =
-    let digit = passed _ _ c.is_digit.ensures (not_from_true _ c.if-not-is_digit.false) in (
-      search rules,
-      rw c.with_digit-v.ensures (digits-below c.loop-i.v c.loop-i.i _ c.loop-i.invariant.1 (digit_range _ digit).1),
-      rw c.with_digit-v.ensures (sym (continued_goes c.loop-i.v _ c.loop-i.i (search rules) digit) ∙ c.loop-i.invariant.2),
+pub loop-b-preserved : goal.loop-b-preserved
+loop-b-preserved c =
+    let digit : IsAsciiDigit (get_or c.args.s.now c.loop-b.b-index 0) = grind (arith, common_steps) in (
+      rw c.from.ensures (digits-below c.loop-b.v c.loop-b.b-index _ c.loop-b.invariant.0 digit.1),
+      rw c.from.ensures (sym (continued_goes c.loop-b.v c.args.s.now c.loop-b.b-index (omega arith) digit) ∙ c.loop-b.invariant.1),
     )
-
-pub returns : goal.returns
-returns c = sym (continued-ends c.loop-i.v _ c.loop-i.i (search rules) (search rules)) ∙ c.loop-i.invariant.2

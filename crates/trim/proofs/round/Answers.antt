@@ -15,12 +15,12 @@ overflow_cast-a c = record { fits = omega (arith, c.fullest-l.ensures, fullest-l
 pub extra-end-requires : goal.extra-end-requires
 extra-end-requires c =
     let m = entry c.args.m.now in
-    (omega (arith, c.requires.2, column-le m c.fullest-l.result), c.requires.0, omega (arith, c.fullest-l.ensures, fullest-lt m))
+    (omega (arith, c.requires.1, column-le m c.fullest-l.result), omega (arith, c.fullest-l.ensures, fullest-lt m))
 
 pub clear_column-requires : goal.clear_column-requires
 clear_column-requires c =
     let l : c.fullest-l.result < 12 = omega (arith, c.fullest-l.ensures, fullest-lt (entry c.args.m.now)) in
-    (c.requires.0, omega (arith, c.requires.1), omega (arith, c.requires.1), c.requires.3 _ _)
+    (omega (arith, c.requires.0), l, c.requires.2 _ _)
 
 pub returns : goal.returns
 returns c =

@@ -1,22 +1,15 @@
 -- The loop's total, with the rest of the bytes added by wrapping add, is that of all bytes. Assumes nothing.
-use Rattle.std.proofs.Common.{◌≡◌, ◌+◌, ◌*◌, ◌%◌, get_or, sym, ◌∙◌, arith, rules}
-use Rattle.wire.proofs.Trailer.{wrapped-checksum, wrapped-end, wrapped-rest}
+use Rattle.std.proofs.Common.{sym, ◌∙◌, rules}
+use Rattle.wire.proofs.Trailer.{wrapped_checksum, wrapped_end, wrapped_rest}
 use Rattle.wire.proofs.checksum.Goals as goal
 
-pub loop-i-preserved : goal.loop-i-preserved
-loop-i-preserved c =
-    let s = c.args.s.now in
-    let acc = c.loop-i.acc in
-    let weight = c.loop-i.weight in
-    let sum : c.wrapping_add_u16-acc.result ≡ (acc + weight * get_or s c.loop-i.i 0 % 65536) % 65536 = omega arith in
-    let next : c.wrapping_add_u16-weight.result ≡ (weight + 1) % 65536 = omega arith in (
-      search rules,
-      search rules,
-      search rules,
-      rw (sum, next) (sym (wrapped-rest acc weight s c.loop-i.i (search rules)) ∙ c.loop-i.invariant.3),
-    )
+pub loop-byte-preserved : goal.loop-byte-preserved
+loop-byte-preserved c =
+    let l = c.loop-byte in
+    rw c.from.ensures (sym (wrapped_rest l.acc l.weight c.args.s.now l.byte-index (search rules)) ∙ l.invariant)
 
 pub returns : goal.returns
 returns c =
+    let l = c.loop-byte in
     let s = c.args.s.now in
-    sym (wrapped-end c.loop-i.acc c.loop-i.weight s c.loop-i.i (search rules) (search rules)) ∙ c.loop-i.invariant.3 ∙ wrapped-checksum s
+    sym (wrapped_end l.acc l.weight s l.byte-index (search rules) (search rules)) ∙ l.invariant ∙ wrapped_checksum s

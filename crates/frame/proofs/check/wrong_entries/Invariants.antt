@@ -6,7 +6,4 @@ use Rattle.frame.specs.Entries.{entries_from}
 use Rattle.frame.proofs.check.wrong_entries.Given as goal
 
 abbrev pub invariant-loop-k : goal.invariant-loop-k
-invariant-loop-k l = (l.k ≤ l.e) × (l.least ≤ 65536) × (ok_from l.n l.h 0 (entries_from l.s 0 l.e) ≡ ok_from l.n l.h l.least (entries_from l.s l.k (l.e - l.k)))
-
-abbrev pub decreases-loop-k : goal.decreases-loop-k
-decreases-loop-k l = l.e - l.k
+invariant-loop-k l = (l.least ≤ 65536) × (ok_from l.n l.h 0 (entries_from l.s 0 l.e) ≡ ok_from l.n l.h l.least (entries_from l.s l.k (l.e - l.k)))

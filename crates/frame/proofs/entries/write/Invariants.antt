@@ -1,13 +1,10 @@
 -- The loop has written the entries of the rows before x. Assumes nothing.
-use Prim.Native.Nat.{◌*◌, ◌-◌}
+use Prim.Native.Nat.{◌*◌}
 use lib.ListN.{drop}
 use Rattle.frame.proofs.Writing.{Writing}
 use Rattle.frame.specs.Entries.{entries_of, listed}
 use Rattle.matrix.specs.Array.{entry}
 use Rattle.frame.proofs.entries.write.Given as goal
 
-abbrev pub invariant-loop-pos : goal.invariant-loop-pos
-invariant-loop-pos l = Writing l.initial.out l.at (entries_of (entry l.m)) l.out l.pos (listed (12 * l.x) (drop (12 * l.x) l.m))
-
-abbrev pub decreases-loop-pos : goal.decreases-loop-pos
-decreases-loop-pos l = 12 - l.x
+abbrev pub invariant-loop-x : goal.invariant-loop-x
+invariant-loop-x l = Writing l.initial.out l.at (entries_of (entry l.m)) l.out l.pos (listed (12 * l.x) (drop (12 * l.x) l.m))

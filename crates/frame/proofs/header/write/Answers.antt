@@ -1,35 +1,9 @@
--- Eight stores, one after the other. Assumes nothing.
-use native.Mathlib.Nat.{add_assoc}
+-- The part of eight bytes is written over. Assumes nothing.
 use native.Mathlib.Omega.{arith}
-use lib.ListN.{length-set}
+use Rattle.frame.proofs.Parts.{put-part}
 use Rattle.frame.specs.Header.{header_bytes}
-use Rattle.wire.specs.Bytes.{put}
 use Rattle.frame.proofs.header.write.Goals as goal
 
-pub bounds-out-at-2 : goal.bounds-out-at-2
-bounds-out-at-2 c = simp length-set (omega arith)
-
-pub bounds-out-at-3 : goal.bounds-out-at-3
-bounds-out-at-3 c = simp length-set (omega arith)
-
-pub bounds-out-at-4 : goal.bounds-out-at-4
-bounds-out-at-4 c = simp length-set (omega arith)
-
-pub bounds-out-at-5 : goal.bounds-out-at-5
-bounds-out-at-5 c = simp length-set (omega arith)
-
-pub bounds-out-at-6 : goal.bounds-out-at-6
-bounds-out-at-6 c = simp length-set (omega arith)
-
-pub bounds-out-at-7 : goal.bounds-out-at-7
-bounds-out-at-7 c = simp length-set (omega arith)
-
-pub bounds-out-at-8 : goal.bounds-out-at-8
-bounds-out-at-8 c = simp length-set (omega arith)
-
-pub shape_of-out : goal.shape_of-out
-shape_of-out c = simp length-set
-
 pub returns : goal.returns
-unfolding put header_bytes
-returns c = simp add_assoc
+unfolding header_bytes
+returns c = put-part c.args.out.now c.args.at _ _ (header_bytes c.args.h) c.copy_from_slice.ensures.after (omega arith) (omega arith)

@@ -13,13 +13,13 @@ use Rattle.wire.proofs.Bytes.{put-nil}
 use Rattle.wire.specs.Bytes.{put}
 use Rattle.frame.proofs.write.extra.Goals as goal
 
-pub overflow_cast-column_count : goal.overflow_cast-column_count
-overflow_cast-column_count c =
+pub overflow_cast-e : goal.overflow_cast-e
+overflow_cast-e c =
     record {
       fits = omega (
         arith,
-        c.column_count.ensures,
-        only-count (entry c.args.m.now) c.args.a.to c.requires.2,
+        c.column_count-e.ensures,
+        only-count (entry c.args.m.now) c.args.a.to c.requires.1,
         count-le (only c.args.a.to (entry c.args.m.now)),
       );
     }
@@ -28,14 +28,14 @@ pub write_column-pos-requires : goal.write_column-pos-requires
 write_column-pos-requires c =
     let m = entry c.args.m.now in
     let l = c.args.a.to in
-    (omega (arith, length-entries_of (only l m), only-count m l c.requires.2, c.requires.0, c.write.auto.out), c.requires.1, c.requires.2)
+    (omega (arith, length-entries_of (only l m), only-count m l c.requires.1, c.requires.0, c.write.auto.out), c.requires.1)
 
 pub write_trailer-requires : goal.write_trailer-requires
 write_trailer-requires c =
     let m = entry c.args.m.now in
     let l = c.args.a.to in
     let e = length-entries_of (only l m) in
-    let o = only-count m l c.requires.2 in
+    let o = only-count m l c.requires.1 in
     let n = count-le (only l m) in (
       omega (arith, c.write_column-pos.ensures.0),
       omega (arith, c.requires.0, c.write.auto.out, c.write_column-pos.auto.out, c.write_column-pos.ensures.0),
@@ -48,9 +48,9 @@ returns c =
     let m = entry a.m.now in
     let x = extra_message a.a.from a.a.to a.a.n a.a.cap m in
     let e = length-entries_of (only a.a.to m) in
-    let o = only-count m a.a.to c.requires.2 in
+    let o = only-count m a.a.to c.requires.1 in
     let head = c.write.ensures ∙ ap (λ (y : Header). put a.out.now a.at (header_bytes y))
-    (header-extra a.a m c.column_count.result c.requires.2 c.column_count.ensures) in
+    (c.header.ensures ∙ header-extra a.a m c.column_count-e.result c.requires.1 c.column_count-e.ensures) in
     let body = put_front a.out.now a.at x _ _ _ c.write_column-pos.result head c.write_column-pos.ensures.1
     c.write_column-pos.ensures.0 (sym (put-nil _ _)) in (
       omega (arith, c.write_trailer.ensures.0, c.write_column-pos.ensures.0),

@@ -19,7 +19,7 @@ overflow_cast-e c = record { fits = omega (arith, c.count-e.ensures, count-le (e
 pub write-pos-requires : goal.write-pos-requires
 write-pos-requires c =
     let k = c.count-e.ensures in
-    (omega (arith, k, c.requires.0, c.write.auto.out), c.requires.1, omega (arith, k, length-entries_of (entry c.args.m.now)))
+    (omega (arith, k, c.requires.0, c.write.auto.out), omega (arith, k, length-entries_of (entry c.args.m.now)))
 
 pub copy-requires : goal.copy-requires
 copy-requires c = omega (arith, length-entries_of (entry c.args.m.now), c.requires.0, c.write.auto.out, c.write-pos.auto.out, c.write-pos.ensures.0)
@@ -33,7 +33,7 @@ write_trailer-requires c =
     let n = count-le (entry c.args.m.now) in (
       omega (arith, c.write-pos.ensures.0),
       omega (arith, c.requires.0, c.write.auto.out, c.write-pos.auto.out, c.copy.auto.out, c.write-pos.ensures.0),
-      omega (arith, c.requires.2, c.write-pos.ensures.0),
+      omega (arith, c.requires.1, c.write-pos.ensures.0),
     )
 
 pub returns : goal.returns
@@ -42,7 +42,7 @@ returns c =
     let m = user_message a.a.from a.a.to a.a.n a.a.cap (entry a.m.now) a.body.now in
     let e = length-entries_of (entry a.m.now) in
     let head = c.write.ensures ∙ ap (λ (x : Header). put a.out.now a.at (header_bytes x))
-    (header-user a.a (entry a.m.now) a.body.now c.count-e.result c.count-e.ensures) in
+    (c.header.ensures ∙ header-user a.a (entry a.m.now) a.body.now c.count-e.result c.count-e.ensures) in
     let body = put_front a.out.now a.at m _ _ _ c.write-pos.result head c.write-pos.ensures.1 c.write-pos.ensures.0 c.copy.ensures in (
       omega (arith, c.write_trailer.ensures.0, c.write-pos.ensures.0),
       put-frame a.out.now a.at m _ _ (c.write-pos.result + length a.body.now) body (omega (arith, front_length m, c.write-pos.ensures.0))

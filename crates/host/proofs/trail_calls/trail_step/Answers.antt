@@ -2,11 +2,11 @@
 use Rattle.host.proofs.TrailTold.{step-told}
 use Rattle.host.proofs.trail_calls.trail_step.Goals as goal
 
-pub returns-in-Refused : goal.returns-in-Refused
-returns-in-Refused c = step-told _ _ _ _ c.step.ensures _ c.in-Refused.is
+pub returns-in-Ok-End : goal.returns-in-Ok-End
+returns-in-Ok-End c = step-told _ _ c.args.shown.now _ (rw c.in-Ok-End.field-0-is at c.in-Ok-End.ensures)
 
-pub returns-in-End : goal.returns-in-End
-returns-in-End c = step-told _ _ c.args.shown.now _ c.step.ensures _ c.in-End.is
+pub returns-in-Ok-Shown : goal.returns-in-Ok-Shown
+returns-in-Ok-Shown c = step-told _ _ c.args.shown.now _ (rw c.in-Ok-Shown.field-0-is at c.in-Ok-Shown.ensures)
 
-pub returns-in-Shown : goal.returns-in-Shown
-returns-in-Shown c = step-told _ _ c.args.shown.now _ c.step.ensures _ c.in-Shown.is
+pub returns-in-Err : goal.returns-in-Err
+returns-in-Err c = rw c.number.ensures (step-told _ _ _ _ c.in-Err.ensures)

@@ -2,8 +2,8 @@
 use Rattle.host.proofs.TrailTold.{walk-told}
 use Rattle.host.proofs.trail_calls.trail_walk.Goals as goal
 
-pub returns-in-Refused : goal.returns-in-Refused
-returns-in-Refused c = walk-told _ _ _ _ c.walk.ensures _ c.in-Refused.is
+pub returns-in-Ok : goal.returns-in-Ok
+returns-in-Ok c = walk-told _ _ c.args.most.now _ c.in-Ok.ensures
 
-pub returns-in-Largest : goal.returns-in-Largest
-returns-in-Largest c = walk-told _ _ c.args.most.now _ c.walk.ensures _ c.in-Largest.is
+pub returns-in-Err : goal.returns-in-Err
+returns-in-Err c = rw c.number.ensures (walk-told _ _ _ _ c.in-Err.ensures)

@@ -9,8 +9,5 @@ use Rattle.simulation.proofs.print.put_issues.Given as goal
 
 abbrev pub invariant-loop-i : goal.invariant-loop-i
 invariant-loop-i l =
-    (l.from ≤ l.i) × (l.i ≤ l.to) × (length l.out ≡ length l.initial.out) × (l.end ≤ l.at + 17 * (l.i - l.from))
-    × ((f : List (List ℕ)) → InLog l.from l.to l.place l.log f → Issuing l.from l.at f l.initial.out l.out l.next l.end l.i)
-
-abbrev pub decreases-loop-i : goal.decreases-loop-i
-decreases-loop-i l = l.to - l.i
+    (length l.out ≡ length l.initial.out) × (l.end ≤ l.at + 17 * (l.i - l.fn.issues.from))
+    × ((f : List (List ℕ)) → InLog l.fn.issues l.log f → Issuing l.fn.issues.from l.at f l.initial.out l.out l.next l.end l.i)

@@ -15,7 +15,7 @@ put_row-requires c =
     let t = c.args.t in
     five_numbers 84 t.user t.extras t.delivered t.delays t.share (search rules) (search rules) (search rules) (search rules) (search rules)
     in
-    rw c.totals-values.ensures (omega (arith, most))
+    rw c.totals.ensures (omega (arith, most))
 
 pub returns : goal.returns
 returns c =
@@ -24,5 +24,5 @@ returns c =
     five_numbers 84 t.user t.extras t.delivered t.delays t.share (search rules) (search rules) (search rules) (search rules) (search rules)
     in
     let r = c.put_row.ensures in
-    let z = shown _ _ _ _ _ _ (ap (row 84) (sym c.totals-values.ensures)) r.0 r.1 in
+    let z = shown _ _ _ _ _ _ (ap (row 84) (sym c.totals.ensures)) r.0 r.1 in
     (omega (arith, z.0, most), z)

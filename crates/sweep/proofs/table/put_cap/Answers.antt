@@ -16,7 +16,7 @@ put_numbers-requires c =
     let a = c.args in
     row-most a.cap a.t (omega arith) (search rules) (search rules) (search rules) (search rules) (search rules)
     in
-    rw c.totals-values.ensures (omega (arith, most))
+    rw c.totals.ensures (omega (arith, most))
 
 pub returns : goal.returns
 returns c =
@@ -26,5 +26,5 @@ returns c =
     in
     let r = c.put_numbers.ensures in
     let z = shown _ _ _ _ _ _ (ap (number_row c.args.cap) (sym
-    c.totals-values.ensures)) r.0 r.1 in
+    c.totals.ensures)) r.0 r.1 in
     (omega (arith, z.0, most), z)

@@ -2,8 +2,8 @@
 use Rattle.trail.proofs.Looping.{Looping}
 use Rattle.trail.proofs.walk.walk.Given as goal
 
-abbrev pub invariant-loop-why : goal.invariant-loop-why
-invariant-loop-why l = Looping l.file l.w l.c
+abbrev pub invariant-loop-most : goal.invariant-loop-most
+invariant-loop-most l = Looping l.file l.w l.c
 
-abbrev pub decreases-loop-why : goal.decreases-loop-why
-decreases-loop-why l = l.c.end
+abbrev pub decreases-loop-most : goal.decreases-loop-most
+decreases-loop-most l = l.c.end

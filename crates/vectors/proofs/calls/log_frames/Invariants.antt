@@ -1,9 +1,6 @@
--- A frame has at most 2,000 bytes, and begins before n, which is at most 4,096.
-use Rattle.std.proofs.Common.{◌-◌, ◌≤◌}
+-- each frame has bytes, so fewer are left behind it
+use Rattle.std.proofs.Common.{length}
 use Rattle.vectors.proofs.calls.log_frames.Given as goal
 
-abbrev pub invariant-loop-i : goal.invariant-loop-i
-invariant-loop-i g l = l.i ≤ 6096
-
-abbrev pub decreases-loop-i : goal.decreases-loop-i
-decreases-loop-i g l = l.n - l.i
+abbrev pub decreases-loop-rest : goal.decreases-loop-rest
+decreases-loop-rest g l = length l.rest

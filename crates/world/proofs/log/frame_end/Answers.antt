@@ -2,11 +2,7 @@
 use native.Mathlib.Omega.{arith}
 use borrow.Author.Rules.{rules}
 use Rattle.holdback.proofs.Slots.{own-most}
-use Rattle.wire.proofs.Bytes.{rest-lent}
 use Rattle.world.proofs.log.frame_end.Goals as goal
 
 pub overflow_add-result : goal.overflow_add-result
 overflow_add-result c = omega (arith, c.own_length.ensures, own-most c.read.result (search rules) (search rules), c.requires)
-
-pub returns : goal.returns
-returns c = rw (c.own_length.ensures, c.read.ensures, rest-lent c.args.log.now c.args.at)

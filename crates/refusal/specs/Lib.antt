@@ -1,0 +1,2 @@
+-- To believe: Numbers, document 01's table.
+pub mod Numbers
