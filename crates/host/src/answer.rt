@@ -23,7 +23,7 @@ impl Answer {
     pub const SIZE: usize = 11;
 
     /// The answer of a delivery.
-    pub fn delivery(d: Delivered) -> Answer
+    pub(crate) fn delivery(d: Delivered) -> Answer
         requires { (d.tried < 256) × (d.body < 256) × (d.extras < 256) × (d.bytes < 65536) }
         ensures { answer_bytes result.kind result.from result.number result.tried result.body result.extras result.bytes ≡ delivery_bytes (delivered_told d) }
     {
@@ -39,8 +39,8 @@ impl Answer {
     }
 
     /// Writes it to the front of the lent bytes; those behind stay.
-    #[tactic(auto, using(crate::proofs::Written::length_put, crate::proofs::Written::answer_written))]
-    pub fn write(self, s: &mut [u8])
+    #[tactic(auto, using(crate::proofs::Written::writing))]
+    pub(crate) fn write(self, s: &mut [u8])
         requires { answer_size ≤ length s.old }
         ensures { s.new ≡ put s.old 0 (answer_bytes self.kind self.from self.number self.tried self.body self.extras self.bytes) }
     {

@@ -24,7 +24,7 @@ fn status(answer: Result<(), Refusal>) -> u8
 }
 
 /// Set-up: the image becomes that of the fresh record.
-// Kept: a number, since C has no Result.
+// Kept: a number, since `host_c` exports this call to C with the same clauses.
 pub fn node_set_up(image: &mut [u8], me: usize, n: usize, cap: usize) -> u8
     ensures { set_up_left result image.new ≡ exported_set_up image.old me n cap }
 {
@@ -32,7 +32,7 @@ pub fn node_set_up(image: &mut [u8], me: usize, n: usize, cap: usize) -> u8
 }
 
 /// Send, as a node of this class: writes the user frame and then trim's extra frames into `out`; the answer has the extra frames and the bytes issued.
-// Kept: a number, since C has no Result.
+// Kept: a number, since `host_c` exports this call to C with the same clauses.
 pub fn node_send(
     image: &mut [u8],
     to: usize,
@@ -48,7 +48,7 @@ pub fn node_send(
 }
 
 /// Offer: the frame is checked and held; the answer is all zero.
-// Kept: a number, since C has no Result.
+// Kept: a number, since `host_c` exports this call to C with the same clauses.
 pub fn node_offer(image: &mut [u8], frame: &[u8], queue: &mut [u8], answer: &mut [u8]) -> u8
     ensures { offer_left result image.new queue.new answer.new
         ≡ exported_offer image.old frame.now queue.old answer.old }
@@ -58,7 +58,7 @@ pub fn node_offer(image: &mut [u8], frame: &[u8], queue: &mut [u8], answer: &mut
 
 /// Deliver: the first deliverable frame is taken out of the queue, its body written into `body` and trim's extra frames into `out`;
 /// the answer says which it was. Where none is deliverable the answer says how many were tried, and nothing else changes.
-// Kept: a number, since C has no Result.
+// Kept: a number, since `host_c` exports this call to C with the same clauses.
 pub fn node_deliver(
     image: &mut [u8],
     queue: &mut [u8],

@@ -5,7 +5,7 @@ ghost use Rattle.host.specs.TrailExports.{write_left, exported_write, step_left,
 use trail::walk::{Cursor, Stepped};
 
 /// Write: the number in use becomes what it is behind the frame.
-// Kept: a number, since C has no Result.
+// Kept: a number, since `host_c` exports this call to C with the same clauses.
 pub fn trail_write(file: &mut [u8], used: &mut usize, frame: &[u8]) -> u8
     ensures { write_left result file.new used.new
         ≡ exported_write file.old used.old frame.now }
@@ -20,7 +20,7 @@ pub fn trail_write(file: &mut [u8], used: &mut usize, frame: &[u8]) -> u8
 }
 
 /// A step: the cursor's numbers are end, w, kinds, extras and most; shown are start and length, both 0 where the walk has reached the file's start.
-// Kept: a number, since C has no Result.
+// Kept: a number, since `host_c` exports this call to C with the same clauses.
 pub fn trail_step(file: &[u8], cursor: &mut [u64; 5], shown: &mut [u64; 2]) -> u8
     ensures { step_left result cursor.new shown.new
         ≡ exported_step file.now cursor.old shown.old }
@@ -59,7 +59,7 @@ pub fn trail_step(file: &[u8], cursor: &mut [u64; 5], shown: &mut [u64; 2]) -> u
 }
 
 /// The whole walk with a window of w frames: the largest count of extra frames in a window.
-// Kept: a number, since C has no Result.
+// Kept: a number, since `host_c` exports this call to C with the same clauses.
 pub fn trail_walk(file: &[u8], w: usize, most: &mut usize) -> u8
     ensures { walk_left result most.new ≡ exported_walk file.now w most.old }
 {

@@ -56,10 +56,6 @@ read_end s at a₀ a k r h =
     ext_get_or 0 a (numbers_at s at (length a₀)) (r.same ∙ sym (length-numbers s at (length a₀)))
     (λ i l. r.read i (omega arith) ∙ sym (get_or-numbers s at (length a₀) i (omega (arith, r.same))))
 
--- bytes written over a list leave its length
-pub length_put : (o : List ℕ) (at : ℕ) (bs : List ℕ) → length (put o at bs) ≡ length o
-length_put o at bs = length-put o at bs
-
 -- one number more of a list that is written
 pub fields_rest : (o : List ℕ) (at : ℕ) (l : List ℕ) (k : ℕ) → k < length l
     → put o (at + 4 * k) (fields (drop k l)) ≡ put (put o (at + 4 * k) (le32 (get_or l k 0))) (at + 4 * (k + 1)) (fields (drop (k + 1) l))
@@ -71,3 +67,6 @@ fields_rest o at l k h =
 pub fields_end : (o : List ℕ) (at : ℕ) (l : List ℕ) (k : ℕ) → length l ≤ k → k ≤ length l → put o at (fields (drop k l)) ≡ o
 unfolding fields
 fields_end o at l k h g = rw (rest_end l k h g) (put-nil o at)
+
+-- what writing numbers cites
+pub ruleset writing = (fields_rest, fields_end, length-put)

@@ -62,7 +62,7 @@ pub fn read(s: &[u8]) -> Node
 }
 
 // Writes the numbers, four bytes each, from `at` on.
-#[tactic(auto, using(crate::proofs::Numbers::fields_rest, crate::proofs::Numbers::fields_end, crate::proofs::Numbers::length_put))]
+#[tactic(auto, using(crate::proofs::Numbers::writing))]
 fn write_numbers(s: &mut [u8], at: usize, a: &[u32])
     requires { at + 4 * length a.now ≤ length s.old }
     ensures { s.new ≡ put s.old at (fields a.now) }
