@@ -19,13 +19,13 @@ by-half P t b x y z under at over = go (ltb t b) refl (eqb t b) refl
     go false d false f = over (omega (arith, ltb-false t b d, eqb-false t b f))
 
 -- the lower neighbour is nearest up to the half, and at the half where it is even
-down : (e u : ℕ) → 2 * (e * 100 % u) ≤ u → (2 * (e * 100 % u) ≡ u → e * 100 / u % 2 ≡ 0) → Rounded e u (e * 100 / u)
+pub down : (e u : ℕ) → 2 * (e * 100 % u) ≤ u → (2 * (e * 100 % u) ≡ u → e * 100 / u % 2 ≡ 0) → Rounded e u (e * 100 / u)
 down e u low even =
     let parts = mod-add-div (e * 100) u in
     record { near = omega (arith, parts); even = λ h. even (omega (arith, parts)) }
 
 -- the upper neighbour from the half on, and at the half where it is even
-up : (e u : ℕ) → 0 < u → u ≤ 2 * (e * 100 % u) → (2 * (e * 100 % u) ≡ u → (e * 100 / u + 1) % 2 ≡ 0) → Rounded e u (e * 100 / u + 1)
+pub up : (e u : ℕ) → 0 < u → u ≤ 2 * (e * 100 % u) → (2 * (e * 100 % u) ≡ u → (e * 100 / u + 1) % 2 ≡ 0) → Rounded e u (e * 100 / u + 1)
 up e u some high even =
     let parts = mod-add-div (e * 100) u in
     let inside = mod-lt (e * 100) some in
@@ -69,7 +69,7 @@ unfolding share
 share_is e u some = rw (ne_eqb u 0 (λ h. omega (arith, h)))
 
 -- so the share is whichever number is shown to be nearest
-share-by : (e u r : ℕ) → 0 < u → Rounded e u r → share e u ≡ up_to32 r
+pub share-by : (e u r : ℕ) → 0 < u → Rounded e u r → share e u ≡ up_to32 r
 share-by e u r some h = share_is e u some ∙ ap up_to32 (only e u (nearest (e * 100) u) r some (nearest_is e u some) h)
 
 -- past the half, or at it from an odd number, the share is the upper neighbour, otherwise the lower one

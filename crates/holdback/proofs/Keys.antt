@@ -77,7 +77,7 @@ module _ (d : Node) (s : List ℕ) where
       rw (eq-eqb (frame_refusal d.n s) 0 (sym e), ne_eqb (arrival_refusal d (decode s)) 0 (λ z. number-none why (f ∙ z)))
 
 -- from and number of a slot's message in one number
-key_parts : (slot : List ℕ) (h : Header) (k : ℕ) → length slot ≡ max_frame → h ≡ header slot → k ≡ number (decode (frame_in slot))
+pub key_parts : (slot : List ℕ) (h : Header) (k : ℕ) → length slot ≡ max_frame → h ≡ header slot → k ≡ number (decode (frame_in slot))
     → 16 * k + h.from ≡ key_of (decode (frame_in slot))
 unfolding key_of
 key_parts slot h k l e p = rw (p, decode-from (frame_in slot) h (e ∙ sym (header-frame slot l)))

@@ -22,7 +22,7 @@ const MATRIX: usize = 3;
 const VECTOR: usize = 579;
 
 /// Where held stands.
-const HELD: usize = 627;
+pub const HELD: usize = 627;
 
 /// The first two reasons for 20: whether bytes have another length than an image, or a bad trailer.
 pub fn unsealed(s: &[u8]) -> bool

@@ -43,7 +43,7 @@ emptied_more m r j h k =
         stored_else r j 0 (emptied r j m) x y (λ a _. q a) ∙ emptied-out r j m x y (λ _ a. d a) ∙ sym (emptied-out (r + 1) j m x y (λ _ a. omega arith))
     go x y (no p) e d = stored_else r j 0 (emptied r j m) x y (λ _ b. p b) ∙ emptied-out r j m x y (λ a _. p a) ∙ sym (emptied-out (r + 1) j m x y (λ a _. p a))
 
-emptied-clear : (m : Matrix) (i j v : ℕ) → i < 12 → j < 12 → v ≡ suc (m i j) → set (flat (emptied 12 j m)) (12 * i + j) v ≡ flat (clear i j m)
+pub emptied-clear : (m : Matrix) (i j v : ℕ) → i < 12 → j < 12 → v ≡ suc (m i j) → set (flat (emptied 12 j m)) (12 * i + j) v ≡ flat (clear i j m)
 emptied-clear m i j v h k e =
     set-flat (emptied 12 j m) i j v h k ∙ flat_ext (stored i j v (emptied 12 j m)) (clear i j m) (λ x y a _. go x y a (ℕ_discrete y j) (ℕ_discrete x i))
   where

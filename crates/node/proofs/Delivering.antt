@@ -30,7 +30,7 @@ use Rattle.matrix.specs.Matrix.{Matrix}
 use Rattle.matrix.specs.Message.{Kind, Message, extra, number, user}
 use Rattle.node.specs.Answers.{AfterDeliver, after_deliver}
 use Rattle.node.specs.Calls.{accept_deliver, deliver_call, refusal, refuse_deliver}
-use Rattle.node.specs.CallRefusals.{Finds, deliver_refusal, record_refusal, short_outputs}
+use Rattle.node.specs.CallRefusals.{Finds, FindsAt, deliver_refusal, record_refusal, short_outputs}
 use Rattle.node.specs.Record.{node_at, broken_record, node_of}
 use Rattle.node.specs.Sizes.{out_size}
 use Rattle.protocol.specs.Answer.{Outcome, accepted, delivery, label, refuse}
@@ -240,6 +240,16 @@ finds-ready f = deliver-ready _ _ _ _ f.passes
 pub finds-part : {r : Record} {q : List ℕ} {out body slot : ℕ} → Finds r q out body slot → (end : ℕ) → end ≡ end_of q slot → HeldPart q slot end
 finds-part {r} {q} {slot = slot} f end w = held-part r.held q slot end (finds-ready f).queue (slot-held r q slot f.found) w
 
+-- it can count its sender
+pub finds-at : {r : Record} {q : List ℕ} {out body slot : ℕ} → Finds r q out body slot → FindsAt r q out body slot
+finds-at {r} {q} {slot = slot} f =
+    let p = finds-part f (end_of q slot) refl in
+    record {
+      deliv = r.deliv;
+      finds = f;
+      room = (finds-ready f).sound.vector_limit (decode (frame_at q slot)).from (from-below (frame_at q slot) p.checked);
+    }
+
 -- what is asked behind the frame taken in, to take it out of the queue and to count its sender
 pub record Countable (r₁ : Record) (q : List ℕ) (slot from : ℕ) : Type 0 where
   pub size : length q ≡ queue_size
@@ -249,18 +259,18 @@ pub record Countable (r₁ : Record) (q : List ℕ) (slot from : ℕ) : Type 0 w
   pub sender : from < 12
   pub count : get_or r₁.deliv from 0 ≤ max_count
 
-pub countable : {r : Record} {q : List ℕ} {out body slot : ℕ} → Finds r q out body slot → (s : List ℕ) → CheckedFrame s
+pub countable : {r : Record} {q : List ℕ} {out body slot : ℕ} → FindsAt r q out body slot → (s : List ℕ) → s ≡ frame_at q slot → CheckedFrame s
     → {tried : ℕ} {o b o₁ b₁ : List ℕ} {d : Delivered} {r₁ : Record} → TakenIn r s tried o b d r₁ o₁ b₁ → Countable r₁ q slot d.from
-countable {r} {q} {slot = slot} f s c {d = d} w =
+countable {r} {q} {slot = slot} f s e c {d = d} w =
     let P : Record → Type 0 = λ (y : Record). Countable y q slot d.from in
-    let k = finds-ready f in
+    let k = finds-ready f.finds in
     let from : d.from < 12 = rw w.told (from-below s c) in
     subst P (sym w.node)
     record {
       size = k.queue.size;
       most = k.queue.most;
-      held = slot-held r q slot f.found;
+      held = slot-held _ q slot f.finds.found;
       layout = k.layout;
       sender = from;
-      count = k.sound.vector_limit d.from from;
+      count = rw (w.told, e) f.room;
     }

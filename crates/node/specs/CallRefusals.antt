@@ -1,6 +1,7 @@
 -- The refusals of each call as numbers: the first check that is met, in rising order, and 0 where none is.
-use Rattle.std.specs.Prelude.{ℕ, ◌+◌, Bool, cond, false, not, ◌||◌, List, [], ◌≡◌, eqb, ltb, length}
-use Rattle.wire.specs.Limits.{max_body}
+use Rattle.std.specs.Prelude.{ℕ, ◌+◌, ◌≤◌, Bool, cond, false, not, ◌||◌, List, [], ◌≡◌, eqb, ltb, length}
+use Rattle.wire.specs.Limits.{max_body, max_count}
+use Rattle.matrix.specs.Array.{vector}
 use Rattle.matrix.specs.Message.{Message}
 use Rattle.frame.specs.Frame.{decode}
 use Rattle.frame.specs.Refusals.{frame_refusal}
@@ -8,7 +9,7 @@ use Rattle.protocol.specs.Node.{Node, at_limit}
 use Rattle.protocol.specs.Send.{bad_destination, long_body}
 use Rattle.protocol.specs.Offer.{not_for_me, claims_too_much, delivered_before, held_already, no_room, deliverable}
 use Rattle.protocol.specs.Deliver.{search}
-use Rattle.holdback.specs.Places.{place_of}
+use Rattle.holdback.specs.Places.{frame_at, place_of}
 use Rattle.holdback.specs.Slots.{queue_size, held_messages}
 use Rattle.holdback.specs.WrongQueue.{wrong_queue}
 use Rattle.rights.specs.Ours.{ours}
@@ -23,10 +24,12 @@ send_refusal r to class body out =
     cond (broken_record r) 2 (cond (ltb out out_size) 3
     (cond (at_limit (node_of r [])) 5 (cond (bad_destination (node_of r []) to) 6 (cond (long_body body) 7 (cond (lacks_right ours class body) 21 0)))))
 
--- a send of this body by some class meets no check
+-- a send at a node with this record's me, n, cap and matrix, of this body by some class, meets no check
 pub record SendPasses (r : Record) (to : ℕ) (body : List ℕ) (out : ℕ) : Type 0 where
+  pub deliv : List ℕ
+  pub held : ℕ
   pub class : ℕ
-  pub passes : send_refusal r to class body out ≡ 0
+  pub passes : send_refusal (record r { deliv = deliv; held = held }) to class body out ≡ 0
 
 -- the protocol's refusals of an offer: 12 to 16
 unfoldable pub hold_refusal : Node → Message → ℕ
@@ -57,3 +60,9 @@ deliver_refusal r q short = record_refusal r q short (cond (at_limit (node_at r 
 pub record Finds (r : Record) (q : List ℕ) (out body slot : ℕ) : Type 0 where
   pub passes : deliver_refusal r q (short_outputs out body) ≡ 0
   pub found : slot + 1 ≡ place_of (search (deliverable (node_at r q)) (held_messages r.held q))
+
+-- the same at a node with this record's me, n, cap, matrix and number of held frames; and this record can count one more of the sender
+pub record FindsAt (r : Record) (q : List ℕ) (out body slot : ℕ) : Type 0 where
+  pub deliv : List ℕ
+  pub finds : Finds (record r { deliv = deliv }) q out body slot
+  pub room : vector r.deliv (decode (frame_at q slot)).from ≤ max_count

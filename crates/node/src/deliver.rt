@@ -9,7 +9,7 @@ ghost use Rattle.protocol.specs.Deliver.{learn};
 ghost use Rattle.arrival.specs.CheckedFrame.{CheckedFrame};
 ghost use Rattle.node.specs.Answers.{after_deliver};
 ghost use Rattle.node.specs.Calls.{deliver_call};
-ghost use Rattle.node.specs.CallRefusals.{deliver_refusal, short_outputs, Finds};
+ghost use Rattle.node.specs.CallRefusals.{deliver_refusal, short_outputs, Finds, FindsAt};
 ghost use Rattle.node.specs.DeliverAnswer.{Frame as frame};
 ghost use Rattle.node.specs.Record.{node_of};
 ghost use Rattle.node.specs.Taken.{Learned, TakenIn};
@@ -89,8 +89,10 @@ impl Node {
         out: &mut [u8],
         body: &mut [u8],
     ) -> Delivered
-        requires { Finds self.old queue.old (length out.old) (length body.old) slot }
-        ensures { after_deliver (record { answer = frame (delivered_told result); node = self.new }) queue.new out.new body.new
+        requires { FindsAt self.old queue.old (length out.old) (length body.old) slot }
+        ensures sender { result.from < 12 }
+        ensures taken { Finds self.old queue.old (length out.old) (length body.old) slot
+            → after_deliver (record { answer = frame (delivered_told result); node = self.new }) queue.new out.new body.new
             ≡ deliver_call self.old queue.old out.old body.old }
     {
         let a = wire::MAX_FRAME * slot;

@@ -22,6 +22,10 @@ use Rattle.wire.proofs.Tests.{T_and, and_T, same_test}
 pub each_more : (k : ℕ) (p : ℕ → Bool) → each_below (k + 1) p ≡ (each_below k p && p k)
 each_more k p = rw add-one
 
+-- one turn of a search
+pub some_more : (k : ℕ) (p : ℕ → Bool) → some_below (k + 1) p ≡ (some_below k p || p k)
+some_more k p = rw add-one
+
 -- one turn behind another pass, which gave r
 pub each_after : (r : Bool) (k : ℕ) (p : ℕ → Bool) → (r && each_below k p && p k) ≡ (r && each_below (k + 1) p)
 each_after r k p = rw add-one (and_assoc r (each_below k p) (p k))

@@ -141,12 +141,17 @@ pub fn broken<'a>(me: u8, n: u8, cap: u8, m: &'a [u32; 144], v: &'a [u32; 12], h
     !counts_ok(me as usize, n as usize, m, v)
 }
 
-// A count of row me is 1,000,000,000.
+// A count of row me is 1,000,000,000. A loop as in `zero_column`: what it reads are places of the matrix, and an edit tries those of column me.
+#[tactic(auto, using(crate::proofs::Passes::some_more, matrix::proofs::Array::entry_in))]
 fn row_at_limit(m: &[u32; 144], me: usize) -> bool
     requires { me < 12 }
     ensures { result ≡ some_below 12 (λ y. eqb (entry m.now me y) max_count) }
 {
-    !each(&m[12 * me..12 * me + 12], |v| v != wire::MAX_COUNT)
+    let mut found = false;
+    for y in 0..12 {
+        found |= m[12 * me + y] == wire::MAX_COUNT;
+    }
+    found
 }
 
 // A count of the vector is 1,000,000,000.

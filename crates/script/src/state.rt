@@ -1,9 +1,8 @@
 //! The state of a script: records and queues, the log of issued frames, and the frame at hand.
-ghost use Rattle.std.specs.Prelude.{◌≡◌, ◌<◌, vec_len};
+ghost use Rattle.std.specs.Prelude.{◌<◌};
 
 use super::frames::{Frame, copy_padded};
 use node::Node;
-use std::alloc::{AllocError, Global};
 
 /// Places: as many as there may be nodes.
 const PLACES: usize = Node::MAX_NODES;
@@ -114,26 +113,24 @@ impl Place {
     }
 }
 
-/// What the commands work on.
-#[derive(Drop)]
+/// What the commands work on. It has no heap, so that making it cannot fail.
+#[derive(Clone, Copy)]
 pub struct State {
-    places: Vec<Place>,
-    log: Vec<[u8; Node::MAX_FRAME]>,
+    places: [Place; PLACES],
+    log: [[u8; Node::MAX_FRAME]; LOG],
     logged: usize,
     pub frame: Frame,
-    ghost whole_places: { vec_len places ≡ 12 },
-    ghost whole_log: { vec_len log ≡ 128 },
 }
 
 impl State {
     /// All zero and empty.
-    pub fn new(alloc: Global) -> Result<State, AllocError> {
-        Ok(State {
-            places: vec![in alloc; Place::new(); PLACES]?,
-            log: vec![in alloc; [0; Node::MAX_FRAME]; LOG]?,
+    pub fn new() -> State {
+        State {
+            places: [Place::new(); PLACES],
+            log: [[0; Node::MAX_FRAME]; LOG],
             logged: 0,
             frame: Frame::new(),
-        })
+        }
     }
 
     /// Makes it all zero and empty again.

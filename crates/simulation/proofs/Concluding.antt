@@ -53,7 +53,7 @@ module _ (n : ℕ) (caps : ℕ → ℕ) (k : ℕ) (v : World) (w : Stored) (q l 
   whole : length g ≡ s.issued
   whole = length-map a.world.log (λ (i : Issue). i.frame) ∙ sym told.1.issued
 
-  grows : w.issued ≤ s.issued
+  pub grows : w.issued ≤ s.issued
   grows = omega (arith, h.issued, told.1.issued, ap length f.grown.1, length-append v.log f.grown.0)
 
   in_log : InLog (issued_between w s) l' g

@@ -36,15 +36,15 @@ module _ (w : World) where
   refused-facts : (x k : ℕ) → StepFacts x w (refuse k w)
   refused-facts x k = record { small = tt; grown = ([], sym (append-nil w.log)) }
 
-  send-facts : (x n limit i j : ℕ) → StepFacts x w (send_step n limit w i j)
+  pub send-facts : (x n limit i j : ℕ) → StepFacts x w (send_step n limit w i j)
   send-facts x n limit i j =
       send-cases w (StepFacts x w) (refused-facts x) n limit i j (λ _ bytes extras t. record { small = tt; grown = (_, refl) })
 
-  offer-facts : (m : ℕ) → m < 1000 → StepFacts m w (offer_step w m)
+  pub offer-facts : (m : ℕ) → m < 1000 → StepFacts m w (offer_step w m)
   offer-facts m h =
       offer-cases w (StepFacts m w) (refused-facts m) m (λ p g at count ready e t. record { small = (h, omega (arith, t)); grown = (_, refl) })
 
-  deliver-facts : (n limit j : ℕ) → length w.log < 99 → j < 1000 → StepFacts j w (deliver_step n limit w j)
+  pub deliver-facts : (n limit j : ℕ) → length w.log < 99 → j < 1000 → StepFacts j w (deliver_step n limit w j)
   deliver-facts n limit j l h =
       deliver-cases w (StepFacts j w) (refused-facts j) n limit j (λ _ tried t. record { small = (h, omega (arith, t.0)); grown = (_, refl) })
       (λ _ d t. record {

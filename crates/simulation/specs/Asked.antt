@@ -1,8 +1,10 @@
 -- What the functions of this crate ask of the numbers and bytes that they are lent.
-use Rattle.std.specs.Prelude.{ℕ, ◌<◌, ◌≤◌, List, ◌≡◌, length, take}
+use Rattle.std.specs.Prelude.{ℕ, ◌<◌, ◌≤◌, List, Result, Ok, Err, ◌≡◌, length, take}
 use Rattle.world.specs.Stored.{Begins, joined}
 use Rattle.world.specs.Outcome.{Outcome}
 use Rattle.world.specs.Outcome as outcome
+use Rattle.world.specs.Told.{made_told}
+use Rattle.world.specs.declared.Outcome.{Outcome as Made}
 use Rattle.simulation.specs.declared.print.Issues.{Issues}
 
 -- the numbers printed for an outcome have at most two digits, x three
@@ -12,6 +14,11 @@ Small x (outcome.Sent extras) = Unit {0}
 Small x (outcome.Held count ready) = (x < 1000) × (count < 100)
 Small x (outcome.Nothing tried) = (x < 1000) × (tried < 100)
 Small x (outcome.Delivered issue tried extras) = (x < 1000) × (issue < 100) × (tried < 100)
+
+-- what a step led to, where a refusal is any number
+abbrev pub numbered : Result Made ℕ → Outcome
+numbered (Ok o) = made_told o
+numbered (Err k) = outcome.Refused k
 
 -- f are the frames that the log l begins with, of which a step issued the last: those before it end where these begin
 pub record InLog (is : Issues) (l : List ℕ) (f : List (List ℕ)) : Type 0 where

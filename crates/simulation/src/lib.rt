@@ -94,6 +94,6 @@ pub fn run(input: &[u8], out: &mut [u8]) -> Result<usize, TooShort>
     }
     match parse(input) {
         Some((sizes, lines)) => Ok(run_sizes(sizes, lines, out)),
-        None => Ok(text::put_refusal(out, 0, Refusal::Line)),
+        None => Ok(text::put_refusal(out, 0, Refusal::Line.number())),
     }
 }

@@ -9,6 +9,7 @@ ghost use Rattle.counting.specs.Stands.{Stands};
 ghost use Rattle.simulation.specs.Yard.{max_issues, line};
 ghost use Rattle.simulation.specs.Stands.{Room, Took};
 ghost use Rattle.simulation.specs.Commanded.{printed_with, step_of};
+ghost use Rattle.simulation.specs.Asked.{numbered};
 
 use super::MAX_ISSUES;
 use super::print::{self, Issues};
@@ -25,6 +26,16 @@ fn printed_with(c: Command) -> usize
         Command::Send { from, .. } => from,
         Command::Offer(m) => m,
         Command::Deliver(j) => j,
+    }
+}
+
+// A step's answer with a refusal as its number, as it is printed.
+fn numbered(step: Result<Outcome, Refusal>) -> Result<Outcome, u8>
+    ensures { numbered result ≡ told step }
+{
+    match step {
+        Ok(o) => Ok(o),
+        Err(why) => Err(why.number()),
     }
 }
 
@@ -56,7 +67,7 @@ pub fn take(
         → Took n caps k (line n z (command text.now)) at out.old y.new result queues.new log.new out.new) }
 {
     let Some(c) = commands::parse_command(text) else {
-        return text::put_refusal(out, at, Refusal::Line);
+        return text::put_refusal(out, at, Refusal::Line.number());
     };
     let World {
         issued: from,
@@ -70,7 +81,7 @@ pub fn take(
         out,
         at,
         printed_with(c),
-        step,
+        numbered(step),
         log,
         Issues { from, to, place },
     )

@@ -2,9 +2,8 @@
 ghost use Rattle.std.specs.Prelude.{◌≡◌, List, [], ◌++◌, ℕ, ◌+◌, ◌-◌, ◌*◌, ◌≤◌, ◌<◌, cond, length, drop};
 ghost use Rattle.text.specs.Print.{refusal_row};
 ghost use Rattle.text.specs.Wrote.{Wrote};
-ghost use Rattle.world.specs.Told.{told};
 ghost use Rattle.simulation.specs.Yard.{header_row, issue_rows, printed_by, total_row};
-ghost use Rattle.simulation.specs.Asked.{InLog, Logged, Small};
+ghost use Rattle.simulation.specs.Asked.{InLog, Logged, Small, numbered};
 
 use counters::Counters;
 use frame::header::Header;
@@ -53,19 +52,19 @@ pub fn put_issues(out: &mut [u8], at: usize, log: &[u8], issues: Issues) -> usiz
     end
 }
 
-/// What a step prints: x is the issue that was offered, or the node of a deliver.
+/// What a step prints: x is the issue that was offered, or the node of a deliver; a refusal is any number, as for `text::put_refusal`.
 pub fn put_outcome(
     out: &mut [u8],
     at: usize,
     x: usize,
-    step: Result<Outcome, Refusal>,
+    step: Result<Outcome, u8>,
     log: &[u8],
     issues: Issues,
 ) -> usize
-    requires { Small x (told step) × Logged issues log.now × (at + 20 + 17 * (issues.to - issues.from) ≤ length out.old) }
+    requires { Small x (numbered step) × Logged issues log.now × (at + 20 + 17 * (issues.to - issues.from) ≤ length out.old) }
     ensures { (result ≤ at + 20 + 17 * (issues.to - issues.from))
         × ((f : List (List ℕ)) → InLog issues log.now f
-        → Wrote (printed_by x (issue_rows (issues.from + 1) (drop issues.from f)) (told step)) at out.old result out.new) }
+        → Wrote (printed_by x (issue_rows (issues.from + 1) (drop issues.from f)) (numbered step)) at out.old result out.new) }
 {
     match step {
         Err(why) => text::put_refusal(out, at, why),
@@ -93,7 +92,7 @@ pub fn put_ending(out: &mut [u8], at: usize, rest: bool, t: Counters) -> usize
     ensures { (result ≤ at + 63) × Wrote (cond rest (refusal_row 17) [] ++ total_row t) at out.old result out.new }
 {
     if rest {
-        let end = text::put_refusal(out, at, Refusal::Line);
+        let end = text::put_refusal(out, at, Refusal::Line.number());
         return put_total(out, end, t);
     }
     put_total(out, at, t)

@@ -29,10 +29,10 @@ pub fn run(input: &[u8], out: &mut [u8]) -> Result<usize, TooShort>
     }
     let asked = request::parse(input);
     if request::is_wrong(asked) {
-        return Ok(text::put_refusal(out, 0, Refusal::Load));
+        return Ok(text::put_refusal(out, 0, Refusal::Load.number()));
     }
     match asked {
         Some(load) => Ok(table::put_table(out, load.n, load.seed as u32, load.draws)),
-        None => Ok(text::put_refusal(out, 0, Refusal::Load)),
+        None => Ok(text::put_refusal(out, 0, Refusal::Load.number())),
     }
 }

@@ -35,6 +35,8 @@ fn put_cap(out: &mut [u8], at: usize, cap: usize, t: Counters) -> usize
 }
 
 /// Writes the table of n nodes, this seed and so many draws to the front of the output, and gives how many bytes it has.
+/// A call of its own in the compiled code too, so that a load that is refused needs no stack for a run.
+#[inline(never)]
 pub fn put_table(out: &mut [u8], n: usize, seed: u32, draws: usize) -> usize
     requires { (2 ≤ n) × (n ≤ 4) × (draws ≤ 400) × (output_size ≤ length out.old) }
     ensures { (result ≤ output_size) × WroteWhole (table n seed draws) out.old result out.new }

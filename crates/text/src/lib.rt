@@ -3,13 +3,11 @@
 
 ghost use Rattle.std.specs.Prelude.{◌≡◌, ◌+◌, ◌-◌, ◌*◌, ◌≤◌, ◌<◌, length, take, drop, eqb, position, MatchOption, ◌∷◌, []};
 ghost use Rattle.text.specs.Pieces.{split};
-ghost use Rattle.refusal.specs.Numbers.{number};
 ghost use Rattle.text.specs.Before.{before};
 ghost use Rattle.text.specs.Fields.{value};
 ghost use Rattle.text.specs.Print.{decimal, line_end, row, number_row, refusal_row};
 ghost use Rattle.text.specs.Wrote.{Wrote};
 
-use refusal::Refusal;
 use std::error::Error;
 use std::fmt;
 
@@ -132,11 +130,12 @@ pub fn put_numbers(out: &mut [u8], at: usize, first: u32, values: &[u32]) -> usi
     put_line_end(out, end, values)
 }
 
-/// Writes a refusal's line from `at` on, and gives the place after it.
+// Kept: a number, since what may be printed is any, and no type asks more of a caller; a `Refusal` has its own by `number`.
+/// Writes the line of the refusal with this number from `at` on, and gives the place after it.
 #[tactic(auto, using(crate::proofs::Print::rows))]
-pub fn put_refusal(out: &mut [u8], at: usize, why: Refusal) -> usize
+pub fn put_refusal(out: &mut [u8], at: usize, why: u8) -> usize
     requires { at + 6 ≤ length out.old }
-    ensures { (result ≤ at + 6) × Wrote (refusal_row (number why)) at out.old result out.new }
+    ensures { (result ≤ at + 6) × Wrote (refusal_row why) at out.old result out.new }
 {
-    put_row(out, at, b'R', &[u32::from(why.number())])
+    put_row(out, at, b'R', &[u32::from(why)])
 }

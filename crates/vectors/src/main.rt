@@ -75,7 +75,7 @@ fn main(rt: HostRuntime) -> io::Result<()> {
     let mut script = Vec::new(rt.alloc());
     rt.reader().take(MAX_SCRIPT).read_to_end(&mut script)?;
     let mut w = BufWriter::new(rt.alloc(), io::writer(&rt))?;
-    let mut state = State::new(rt.alloc())?;
+    let mut state = State::new();
     run_lines(&mut w, &mut state, script.as_slice())?;
     w.flush()
 }

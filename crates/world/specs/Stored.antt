@@ -10,6 +10,8 @@ use Rattle.node.specs.Sizes.{out_size}
 use Rattle.causality.specs.Demand3.{World}
 use Rattle.world.specs.declared.World.{World as Stored}
 use Rattle.world.specs.Start.{cap_of, max_simulated}
+use Rattle.world.specs.Outcome.{Outcome}
+use Rattle.world.specs.Outcome as outcome
 use Rattle.world.specs.Reached.{Reached}
 use Rattle.world.specs.Steps.{frames}
 
@@ -89,6 +91,14 @@ pub record Standing (limit : ℕ) (s : Stored) (q l : List ℕ) : Type 0 where
 -- the same, where the queues are not lent
 abbrev pub StandingRecords : ℕ → Stored → List ℕ → Type 0
 StandingRecords limit s l = (q : List ℕ) × Standing limit s q l
+
+-- a step that is refused, or a deliver that finds nothing, leaves all that is stored as it was
+abbrev pub Kept : Outcome → Stored → Stored → Type 0
+Kept (outcome.Refused k) s s' = s' ≡ s
+Kept (outcome.Sent extras) s s' = Unit {0}
+Kept (outcome.Held count ready) s s' = Unit {0}
+Kept (outcome.Nothing tried) s s' = s' ≡ s
+Kept (outcome.Delivered issue tried extras) s s' = Unit {0}
 
 -- the record r in place of node i's, and so many frames and bytes more
 abbrev pub stored_after : Stored → ℕ → Record → ℕ → ℕ → Stored

@@ -1,7 +1,7 @@
 //! A deliver in a simulation.
 ghost use Rattle.std.specs.Prelude.{◌≡◌, ℕ, ◌+◌, ◌<◌};
 ghost use Rattle.causality.specs.Demand3.{World as Lists};
-ghost use Rattle.world.specs.Stored.{Holds, Standing};
+ghost use Rattle.world.specs.Stored.{Holds, Kept, Standing};
 ghost use Rattle.world.specs.Steps.{deliver_step};
 ghost use Rattle.world.specs.Told.{told};
 
@@ -19,9 +19,10 @@ impl World {
         log: &mut [u8],
     ) -> Result<Outcome, Refusal>
         requires { (limit < 1000000) × Standing limit self.old queues.old log.old }
-        ensures { (n : ℕ) (caps : ℕ → ℕ) (k : ℕ) (v : Lists) → k + 1 < 1000000000 → Holds n caps limit k v self.old queues.old log.old
+        ensures step { (n : ℕ) (caps : ℕ → ℕ) (k : ℕ) (v : Lists) → k + 1 < 1000000000 → Holds n caps limit k v self.old queues.old log.old
             → (told result ≡ (deliver_step n limit v at).outcome)
             × Holds n caps limit (k + 1) (deliver_step n limit v at).world self.new queues.new log.new }
+        ensures kept { Kept (told result) self.old self.new }
     {
         if self.stops(limit, at) {
             return Err(Refusal::Line);
@@ -39,7 +40,7 @@ impl World {
             Found::Frame(d) => {
                 let name = log::Name {
                     to: at,
-                    kind: d.kind,
+                    kind: d.kind.byte(),
                     from: d.from,
                     number: d.number,
                 };

@@ -1,17 +1,16 @@
 //! The log: issued frames end to end, in issue order, each found by the lengths of those before it.
 ghost use Rattle.std.specs.Prelude.{◌≡◌, List, ℕ, ◌+◌, ◌≤◌, length, take, drop};
-ghost use Rattle.frame.specs.Header.{header, kind_byte, kind_named, own_length};
+ghost use Rattle.frame.specs.Header.{header, own_length};
 ghost use Rattle.arrival.specs.CheckedFrame.{CheckedFrame};
 ghost use Rattle.world.specs.Stored.{Begins, BeginsWith, joined, some_issue};
 ghost use Rattle.world.specs.Steps.{named, issue_from};
-
-use frame::header::Kind;
 
 /// The name of a delivery: the node that it is made at, and the kind, the from and the number of its frame.
 #[derive(Clone, Copy)]
 pub struct Name {
     pub to: usize,
-    pub kind: Kind,
+    // Kept: any byte of a header, as for `frame::header::Header`; none that was issued has another than 1 or 2.
+    pub kind: u8,
     pub from: u8,
     pub number: u32,
 }
@@ -40,11 +39,11 @@ pub fn skip(log: &[u8], k: usize) -> usize
 #[tactic(auto, using(std::proofs::lemmas::Grind::common_steps), unfolding(crate::specs::Steps::named))]
 fn is_named(s: &[u8], name: Name) -> bool
     requires { CheckedFrame s.now }
-    ensures { result ≡ named (record { kind = kind_byte (kind_named name.kind); from = name.from; number = name.number }) name.to s.now }
+    ensures { result ≡ named (record { kind = name.kind; from = name.from; number = name.number }) name.to s.now }
 {
     let h = frame::header::read(s);
     usize::from(h.to) == name.to
-        && h.kind == name.kind.byte()
+        && h.kind == name.kind
         && h.from == name.from
         && arrival::number(s) == name.number
 }
@@ -53,7 +52,7 @@ fn is_named(s: &[u8], name: Name) -> bool
 pub fn find(log: &[u8], count: usize, name: Name) -> Option<usize>
     requires { BeginsWith count log.now }
     ensures { (f : List (List ℕ)) → Begins f log.now → count ≡ length f
-        → result ≡ some_issue (issue_from 1 (record { kind = kind_byte (kind_named name.kind); from = name.from; number = name.number }) name.to f) }
+        → result ≡ some_issue (issue_from 1 (record { kind = name.kind; from = name.from; number = name.number }) name.to f) }
 {
     let mut at = 0;
     for i in 0..count {

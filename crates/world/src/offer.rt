@@ -1,7 +1,7 @@
 //! An offer in a simulation.
 ghost use Rattle.std.specs.Prelude.{◌≡◌, ℕ, ◌+◌, ◌<◌};
 ghost use Rattle.causality.specs.Demand3.{World as Lists};
-ghost use Rattle.world.specs.Stored.{Holds, Standing};
+ghost use Rattle.world.specs.Stored.{Holds, Kept, Standing};
 ghost use Rattle.world.specs.Steps.{offer_step};
 ghost use Rattle.world.specs.Told.{told};
 
@@ -19,9 +19,10 @@ impl World {
         log: &[u8],
     ) -> Result<Outcome, Refusal>
         requires { Standing limit self.old queues.old log.now }
-        ensures { (n : ℕ) (caps : ℕ → ℕ) (k : ℕ) (v : Lists) → k + 1 < 1000000000 → Holds n caps limit k v self.old queues.old log.now
+        ensures step { (n : ℕ) (caps : ℕ → ℕ) (k : ℕ) (v : Lists) → k + 1 < 1000000000 → Holds n caps limit k v self.old queues.old log.now
             → (told result ≡ (offer_step v issue).outcome)
             × Holds n caps limit (k + 1) (offer_step v issue).world self.new queues.new log.now }
+        ensures kept { Kept (told result) self.old self.new }
     {
         if issue == 0 || self.issued < issue {
             return Err(Refusal::Line);

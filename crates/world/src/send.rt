@@ -1,7 +1,7 @@
 //! A send in a simulation.
 ghost use Rattle.std.specs.Prelude.{◌≡◌, List, ℕ, ◌+◌, ◌<◌};
 ghost use Rattle.causality.specs.Demand3.{World as Lists};
-ghost use Rattle.world.specs.Stored.{Holds, StandingRecords};
+ghost use Rattle.world.specs.Stored.{Holds, Kept, StandingRecords};
 ghost use Rattle.world.specs.Steps.{send_step};
 ghost use Rattle.world.specs.Told.{told};
 
@@ -19,8 +19,9 @@ impl World {
         log: &mut [u8],
     ) -> Result<Outcome, Refusal>
         requires { (limit < 1000000) × StandingRecords limit self.old log.old }
-        ensures { (n : ℕ) (caps : ℕ → ℕ) (k : ℕ) (v : Lists) (q : List ℕ) → k + 1 < 1000000000 → Holds n caps limit k v self.old q log.old
+        ensures step { (n : ℕ) (caps : ℕ → ℕ) (k : ℕ) (v : Lists) (q : List ℕ) → k + 1 < 1000000000 → Holds n caps limit k v self.old q log.old
             → (told result ≡ (send_step n limit v from to).outcome) × Holds n caps limit (k + 1) (send_step n limit v from to).world self.new q log.new }
+        ensures kept { Kept (told result) self.old self.new }
     {
         if self.stops(limit, from) {
             return Err(Refusal::Line);

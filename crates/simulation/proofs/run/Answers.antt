@@ -20,5 +20,5 @@ returns-in-Some c =
 pub returns-in-None : goal.returns-in-None
 unfolding run_call
 returns-in-None c =
-    let r = c.put_refusal.ensures in
+    let r = rw c.number.ensures at c.put_refusal.ensures in
     (run-written _ _ _ (omega arith) _ c.in-None.ensures _ _ (r.1.0 ∙ zero-add _) r.1.1, omega (arith, r.0))

@@ -18,7 +18,7 @@ returns-then-out-lt-OUTPUT_SIZE c = (run_short _ _ _ c.if-out-lt-OUTPUT_SIZE.tru
 pub returns-then-is_wrong : goal.returns-then-is_wrong
 unfolding run_call
 returns-then-is_wrong c =
-    let r = c.put_refusal.ensures in
+    let r = rw c.number.ensures at c.put_refusal.ensures in
     let w = sym c.is_wrong.ensures ∙ c.if-is_wrong.true in (
       run-written _ _ _ (omega arith) _ (ap (λ (x : Option Load). printed (answered x)) (sym c.parse-asked.ensures)
           ∙ ap printed (answered-refused _ w)) _ _ (r.1.0 ∙ zero-add _) r.1.1,
@@ -48,7 +48,7 @@ returns-in-Some c =
 pub returns-in-None : goal.returns-in-None
 unfolding run_call answered
 returns-in-None c =
-    let r = c.put_refusal-in-None.ensures in (
+    let r = rw c.number-in-None.ensures at c.put_refusal-in-None.ensures in (
       run-written _ _ _ (omega arith) _ (ap (λ (x : Option Load). printed (answered x)) (sym c.parse-asked.ensures ∙ c.in-None.is)) _ _
           (r.1.0 ∙ zero-add _) r.1.1,
       omega (arith, r.0),

@@ -8,20 +8,22 @@ use Rattle.frame.specs.Entries.{entries_from}
 use Rattle.wire.proofs.Tests.{denied, passed}
 use Rattle.std.proofs.lemmas.Bool.{not_from_true, not_from_false}
 use Rattle.frame.proofs.check.wrong_entries.Goals as goal
-use Rattle.frame.proofs.check.wrong_entries.Goals.{then-not-entry_ok-via-then-not-entry_ok, then-not-entry_ok-via-else-not-entry_ok+then-place-least}
 
 pub returns-then-not-entry_ok : goal.returns-then-not-entry_ok
 returns-then-not-entry_ok c =
     let a = c.args in
     let fails : ok_from a.n a.h c.loop-k.least (entries_from a.s.now c.loop-k.k (c.from-e.result - c.loop-k.k)) ≡ false =
     rw (entries-rest a.s.now c.loop-k.k c.from-e.result (search rules), ← c.read-a.ensures)
-    (elim c.then-not-entry_ok.branch [
-      | then-not-entry_ok-via-then-not-entry_ok w ↦ walk-wrong a.n a.h c.loop-k.least c.read-a.result _
-          (denied _ _ c.entry_ok.ensures (not_from_false _ w.if-not-entry_ok.true))
-      | then-not-entry_ok-via-else-not-entry_ok+then-place-least w ↦ walk-early a.n a.h c.loop-k.least c.read-a.result _
-          (passed _ _ c.entry_ok.ensures (not_from_true _ w.if-not-entry_ok.false))
-          (rw (c.from.ensures, c.from-in-loop-k.ensures) at w.if-place-least.true)
-    ]) in
+    (walk-wrong a.n a.h c.loop-k.least c.read-a.result _ (denied _ _ c.entry_ok.ensures (not_from_false _ c.if-not-entry_ok.true))) in
+    walk_fails a.n a.h a.s.now a.h.e (λ i. (c.type_inv.s i).fits) (rw c.from-e.ensures at (c.loop-k.invariant.1 ∙ fails))
+
+pub returns-then-place-least : goal.returns-then-place-least
+returns-then-place-least c =
+    let a = c.args in
+    let fails : ok_from a.n a.h c.loop-k.least (entries_from a.s.now c.loop-k.k (c.from-e.result - c.loop-k.k)) ≡ false =
+    rw (entries-rest a.s.now c.loop-k.k c.from-e.result (search rules), ← c.read-a.ensures)
+    (walk-early a.n a.h c.loop-k.least c.read-a.result _ (passed _ _ c.entry_ok.ensures (not_from_true _ c.if-not-entry_ok.false))
+    (rw (c.from.ensures, c.from-in-loop-k.ensures) at c.if-place-least.true)) in
     walk_fails a.n a.h a.s.now a.h.e (λ i. (c.type_inv.s i).fits) (rw c.from-e.ensures at (c.loop-k.invariant.1 ∙ fails))
 
 pub loop-k-preserved : goal.loop-k-preserved

@@ -1,7 +1,7 @@
 -- The image is opened, the checks are told, and what the delivery left is written. Assumes nothing.
 use lib.ListN.{length}
 use Rattle.refusal.proofs.Laws.{number-none}
-use Rattle.node.proofs.Delivering.{deliver-ready as node-ready}
+use Rattle.node.proofs.Delivering.{deliver-ready as node-ready, finds-at}
 use Rattle.node.proofs.Shared.{passed_on}
 use Rattle.host.proofs.Left.{deliver_20, deliver-done, deliver-nothing, deliver-ready, deliver-small, deliver-why}
 use Rattle.host.proofs.calls.deliver.Goals as goal
@@ -42,14 +42,14 @@ take-d-requires c =
     let a = c.args in
     let ready = deliver-ready a.image.now a.queue.now a.out.now a.body.now a.answer.now c.in_ok-node.ensures.refusal _ c.in_ok-node.ensures.record.0 _ _
     c.short_for_deliver-short.ensures c.check_deliver.ensures c.in_ok-told.ensures in
-    record { passes = ready.passes; found = c.in-Some.ensures _ _ _ _ }
+    finds-at (record { passes = ready.passes; found = c.in-Some.ensures _ _ _ _ })
 
 pub delivery-requires : goal.delivery-requires
 delivery-requires c =
     let a = c.args in
     let ready = deliver-ready a.image.now a.queue.now a.out.now a.body.now a.answer.now c.in_ok-node.ensures.refusal _ c.in_ok-node.ensures.record.0 _ _
     c.short_for_deliver-short.ensures c.check_deliver.ensures c.in_ok-told.ensures in
-    deliver-small _ _ _ _ _ _ _ _ _ _ _ _ ready _ _ _ _ _ c.take-d.ensures
+    deliver-small _ _ _ _ _ _ _ _ _ _ _ _ ready _ _ _ _ _ (c.take-d.ensures.taken (record { passes = ready.passes; found = c.in-Some.ensures _ _ _ _ }))
 
 pub write-requires-2 : goal.write-requires-2
 write-requires-2 c =
@@ -63,4 +63,4 @@ returns c =
     let a = c.args in
     let ready = deliver-ready a.image.now a.queue.now a.out.now a.body.now a.answer.now c.in_ok-node.ensures.refusal _ c.in_ok-node.ensures.record.0 _ _
     c.short_for_deliver-short.ensures c.check_deliver.ensures c.in_ok-told.ensures in
-    deliver-done _ _ _ _ _ _ _ _ _ _ _ _ ready _ _ _ _ _ c.take-d.ensures _ _ c.store_delivery.ensures (cc)
+    deliver-done _ _ _ _ _ _ _ _ _ _ _ _ ready _ _ _ _ _ (c.take-d.ensures.taken (record { passes = ready.passes; found = c.in-Some.ensures _ _ _ _ })) _ _ c.store_delivery.ensures (cc)

@@ -19,7 +19,7 @@ pub issue-issue-requires : goal.issue-issue-requires
 issue-issue-requires c =
     let ready = send-ready _ _ _ _ _ _ c.in_ok-node.ensures.refusal _ c.in_ok-node.ensures.record.0 _ _
     c.room.ensures c.check_send.ensures c.in_ok-told.ensures in
-    record { class = c.args.class; passes = ready.passes }
+    record { deliv = _; held = _; class = c.args.class; passes = ready.passes }
 
 pub overflow_cast-said : goal.overflow_cast-said
 overflow_cast-said c =

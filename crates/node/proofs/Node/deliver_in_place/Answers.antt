@@ -2,7 +2,7 @@
 use mathlib.Core.Path.{◌∙◌, ap}
 use lib.ListN.{length}
 use Rattle.refusal.proofs.Laws.{number-none}
-use Rattle.node.proofs.Delivering.{deliver-accepted, deliver-none, deliver-passes, deliver-ready, deliver-refused}
+use Rattle.node.proofs.Delivering.{deliver-accepted, deliver-none, deliver-passes, deliver-ready, deliver-refused, finds-at}
 use Rattle.node.proofs.Shared.{passed_on}
 use Rattle.node.specs.CallRefusals.{deliver_refusal}
 use Rattle.node.proofs.Node.deliver_in_place.Goals as goal
@@ -29,7 +29,15 @@ returns-in-None c =
 pub take-requires : goal.take-requires
 take-requires c =
     let a = c.args in
-    record {
+    finds-at (record {
       passes = deliver-passes a.self.now a.queue.now (length a.out.now) (length a.body.now) _ c.short_outputs-short.ensures c.in_ok-check_deliver.ensures;
       found = c.in-Some.ensures _ _ _ _;
-    }
+    })
+
+pub returns-in-Some : goal.returns-in-Some
+returns-in-Some c =
+    let a = c.args in
+    c.take.ensures.taken (record {
+      passes = deliver-passes a.self.now a.queue.now (length a.out.now) (length a.body.now) _ c.short_outputs-short.ensures c.in_ok-check_deliver.ensures;
+      found = c.in-Some.ensures _ _ _ _;
+    })

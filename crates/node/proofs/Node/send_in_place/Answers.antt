@@ -11,7 +11,7 @@ returns-in_err-check_send c =
     (send-refused _ _ _ _ _ _ c.in_err-check_send.ensures (number-none _))
 
 pub issue-requires : goal.issue-requires
-issue-requires c = record { class = c.args.class; passes = sym c.in_ok-check_send.ensures }
+issue-requires c = record { deliv = _; held = _; class = c.args.class; passes = sym c.in_ok-check_send.ensures }
 
 pub returns : goal.returns
 returns c = c.issue.ensures ∙ send-accepted _ _ _ _ _ (sym c.in_ok-check_send.ensures)

@@ -5,7 +5,7 @@ use Rattle.simulation.proofs.print.put_ending.Goals as goal
 
 pub returns-then-rest : goal.returns-then-rest
 returns-then-rest c =
-    let r = c.put_refusal-end.ensures in
+    let r = rw c.number.ensures at c.put_refusal-end.ensures in
     let t = c.put_total.ensures in
     let z = shown-both _ _ _ _ _ _ _ _ r.1.0 r.1.1 t.1.0 t.1.1 in
     rw c.if-rest.true (omega (arith, r.0, t.0), z)

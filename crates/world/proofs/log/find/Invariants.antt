@@ -4,7 +4,6 @@ use mathlib.Core.List.{List}
 use mathlib.Core.Path.{◌≡◌}
 use lib.ListN.{length, drop}
 use Rattle.causality.specs.Demand3.{Label}
-use Rattle.frame.specs.Header.{kind_byte, kind_named}
 use Rattle.world.specs.declared.log.Name.{Name}
 use Rattle.world.specs.Steps.{issue_from}
 use Rattle.world.specs.Stored.{Begins}
@@ -12,7 +11,7 @@ use Rattle.world.proofs.Logs.{Behind}
 use Rattle.world.proofs.log.find.Given as goal
 
 abbrev pub label_of : Name → Label
-label_of a = record { kind = kind_byte (kind_named a.kind); from = a.from; number = a.number }
+label_of a = record { kind = a.kind; from = a.from; number = a.number }
 
 abbrev pub invariant-loop-i : goal.invariant-loop-i
 invariant-loop-i l = record {
