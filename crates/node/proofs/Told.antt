@@ -1,4 +1,5 @@
--- What the answer of a call tells of what the call left: the frames that it wrote, and that its numbers are small. Assumes nothing.
+-- What the answer of a call tells: the number of its refusal, the frames that the call wrote, and that its numbers are small. Assumes nothing.
+use Rattle.std.specs.Prelude.{Err, Ok, Result}
 use Prim.Native.Nat.{ℕ, suc, ◌+◌, ◌-◌, ◌*◌, ◌≤◌, ◌<◌}
 use mathlib.Core.List.{List, [], ◌∷◌}
 use mathlib.Core.Path.{◌∙◌, ◌≡◌, refl, subst, sym}
@@ -32,7 +33,9 @@ use Rattle.node.proofs.Sending.{sendable}
 use Rattle.node.proofs.Offering.{length_messages, offerable}
 use Rattle.node.proofs.Delivering.{Ready, deliver-ready, searched}
 use Rattle.node.proofs.Taking.{bodied, entries-limit, from-below}
-use Rattle.node.specs.Answers.{AfterSend, AfterOffer, AfterDeliver}
+use Rattle.refusal.specs.Numbers.{met}
+use Rattle.refusal.specs.declared.Refusal.{Refusal}
+use Rattle.node.specs.Answers.{AfterSend, AfterOffer, AfterDeliver, deliver_number, offer_number, send_number, set_up_number}
 use Rattle.node.specs.Calls.{accept_deliver, accept_send, deliver_call, offer_call, send_call}
 use Rattle.node.specs.CallRefusals.{send_refusal}
 use Rattle.node.specs.Record.{node_at, node_of}
@@ -44,6 +47,30 @@ use Rattle.node.specs.DeliverAnswer.{DeliverAnswer}
 use Rattle.node.specs.SendAnswer as send_answer
 use Rattle.node.specs.OfferAnswer as offer_answer
 use Rattle.node.specs.DeliverAnswer as deliver_answer
+use Rattle.node.specs.Told.{deliver_told, offer_told, send_told, set_up_told}
+use Rattle.node.specs.declared.Found.{Found}
+use Rattle.node.specs.declared.Found.TheVariants as found
+use Rattle.node.specs.declared.Held.{Held}
+use Rattle.node.specs.declared.Issue.{Issue}
+
+-- ---- a refusal is told by the number that the checks have for it
+
+pub set_up-met : (r : Result Unit Refusal) → set_up_number (set_up_told r) ≡ met r
+set_up-met (Ok ready) = refl
+set_up-met (Err why) = refl
+
+pub send-met : (r : Result Issue Refusal) → send_number (send_told r) ≡ met r
+send-met (Ok i) = refl
+send-met (Err why) = refl
+
+pub offer-met : (r : Result Held Refusal) → offer_number (offer_told r) ≡ met r
+offer-met (Ok h) = refl
+offer-met (Err why) = refl
+
+pub deliver-met : (r : Result Found Refusal) → deliver_number (deliver_told r) ≡ met r
+deliver-met (Ok (found.Nothing tried)) = refl
+deliver-met (Ok (found.Frame d)) = refl
+deliver-met (Err why) = refl
 
 -- the frames of these messages, so many bytes, were written from the front of `out` on, which is now o
 pub record Wrote (out o : List ℕ) (bytes : ℕ) (l : List Message) : Type 0 where

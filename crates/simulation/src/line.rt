@@ -33,10 +33,7 @@ fn printed_with(c: Command) -> usize
 fn numbered(step: Result<Outcome, Refusal>) -> Result<Outcome, u8>
     ensures { numbered result ≡ told step }
 {
-    match step {
-        Ok(o) => Ok(o),
-        Err(why) => Err(why.number()),
-    }
+    step.map_err(|why| why.number())
 }
 
 // The step of a command.

@@ -92,7 +92,7 @@ pub record Standing (limit : ℕ) (s : Stored) (q l : List ℕ) : Type 0 where
 abbrev pub StandingRecords : ℕ → Stored → List ℕ → Type 0
 StandingRecords limit s l = (q : List ℕ) × Standing limit s q l
 
--- a step that is refused, or a deliver that finds nothing, leaves all that is stored as it was
+-- a step that is refused, or a deliver that finds nothing, leaves the struct as it was: every record, also those from n on, and both counts
 abbrev pub Kept : Outcome → Stored → Stored → Type 0
 Kept (outcome.Refused k) s s' = s' ≡ s
 Kept (outcome.Sent extras) s s' = Unit {0}
