@@ -259,18 +259,29 @@ pub record Countable (r₁ : Record) (q : List ℕ) (slot from : ℕ) : Type 0 w
   pub sender : from < 12
   pub count : get_or r₁.deliv from 0 ≤ max_count
 
-pub countable : {r : Record} {q : List ℕ} {out body slot : ℕ} → FindsAt r q out body slot → (s : List ℕ) → s ≡ frame_at q slot → CheckedFrame s
-    → {tried : ℕ} {o b o₁ b₁ : List ℕ} {d : Delivered} {r₁ : Record} → TakenIn r s tried o b d r₁ o₁ b₁ → Countable r₁ q slot d.from
-countable {r} {q} {slot = slot} f s e c {d = d} w =
+-- of a record that differs from the finding one in its vector, where that is within the limit at the sender
+countable-by : {r : Record} {v q : List ℕ} {out body slot : ℕ} → Finds (record r { deliv = v }) q out body slot → (s : List ℕ) → CheckedFrame s
+    → {tried : ℕ} {o b o₁ b₁ : List ℕ} {d : Delivered} {r₁ : Record} → TakenIn r s tried o b d r₁ o₁ b₁
+    → vector r.deliv d.from ≤ max_count → Countable r₁ q slot d.from
+countable-by {r} {q = q} {slot = slot} f s c {d = d} w room =
     let P : Record → Type 0 = λ (y : Record). Countable y q slot d.from in
-    let k = finds-ready f.finds in
-    let from : d.from < 12 = rw w.told (from-below s c) in
+    let k = finds-ready f in
     subst P (sym w.node)
     record {
       size = k.queue.size;
       most = k.queue.most;
-      held = slot-held _ q slot f.finds.found;
+      held = slot-held _ q slot f.found;
       layout = k.layout;
-      sender = from;
-      count = rw (w.told, e) f.room;
+      sender = rw w.told (from-below s c);
+      count = room;
     }
+
+-- the record that finds the slot can count any sender
+pub countable : {r : Record} {q : List ℕ} {out body slot : ℕ} → Finds r q out body slot → (s : List ℕ) → CheckedFrame s
+    → {tried : ℕ} {o b o₁ b₁ : List ℕ} {d : Delivered} {r₁ : Record} → TakenIn r s tried o b d r₁ o₁ b₁ → Countable r₁ q slot d.from
+countable f s c {d = d} w = countable-by f s c w ((finds-ready f).sound.vector_limit d.from (rw w.told (from-below s c)))
+
+-- another record can count the sender that it has room for
+pub countable-at : {r : Record} {q : List ℕ} {out body slot : ℕ} → FindsAt r q out body slot → (s : List ℕ) → s ≡ frame_at q slot → CheckedFrame s
+    → {tried : ℕ} {o b o₁ b₁ : List ℕ} {d : Delivered} {r₁ : Record} → TakenIn r s tried o b d r₁ o₁ b₁ → Countable r₁ q slot d.from
+countable-at f s e c w = countable-by f.finds s c w (rw (w.told, e) f.room)

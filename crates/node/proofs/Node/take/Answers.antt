@@ -2,7 +2,7 @@
 use mathlib.Core.Path.{◌∙◌}
 use native.Mathlib.Omega.{arith}
 use borrow.Author.Rules.{rules}
-use Rattle.node.proofs.Delivering.{countable, deliver-accepted, deliver-leaves, finds-part, finds-ready, slot-held}
+use Rattle.node.proofs.Delivering.{countable-at, deliver-accepted, deliver-leaves, finds-part, finds-ready, slot-held}
 use Rattle.node.proofs.Node.take.Goals as goal
 
 pub overflow_mul-a : goal.overflow_mul-a
@@ -30,40 +30,40 @@ take_in-d-requires c =
 pub remove-requires : goal.remove-requires
 remove-requires c =
     let p = finds-part c.requires.finds _ c.frame_end-z.ensures in
-    let k = countable c.requires _ p.same (rw p.same p.checked) c.take_in-d.ensures in
+    let k = countable-at c.requires _ p.same (rw p.same p.checked) c.take_in-d.ensures in
     (k.size, k.most, k.held, k.layout)
 
 pub bounds-self-d : goal.bounds-self-d
 bounds-self-d c =
     let p = finds-part c.requires.finds _ c.frame_end-z.ensures in
-    (countable c.requires _ p.same (rw p.same p.checked) c.take_in-d.ensures).sender
+    (countable-at c.requires _ p.same (rw p.same p.checked) c.take_in-d.ensures).sender
 
 pub overflow_add-self : goal.overflow_add-self
 overflow_add-self c =
     let p = finds-part c.requires.finds _ c.frame_end-z.ensures in
-    let k = countable c.requires _ p.same (rw p.same p.checked) c.take_in-d.ensures in
+    let k = countable-at c.requires _ p.same (rw p.same p.checked) c.take_in-d.ensures in
     record { fits = omega (arith, k.count) }
 
 pub bounds-self-d-2 : goal.bounds-self-d-2
 bounds-self-d-2 c =
     let p = finds-part c.requires.finds _ c.frame_end-z.ensures in
-    (countable c.requires _ p.same (rw p.same p.checked) c.take_in-d.ensures).sender
+    (countable-at c.requires _ p.same (rw p.same p.checked) c.take_in-d.ensures).sender
 
 pub overflow_sub-self : goal.overflow_sub-self
 overflow_sub-self c =
     let p = finds-part c.requires.finds _ c.frame_end-z.ensures in
-    let k = countable c.requires _ p.same (rw p.same p.checked) c.take_in-d.ensures in
+    let k = countable-at c.requires _ p.same (rw p.same p.checked) c.take_in-d.ensures in
     omega (arith, k.held)
 
 pub returns-clause-sender : goal.returns-clause-sender
 returns-clause-sender c =
     let p = finds-part c.requires.finds _ c.frame_end-z.ensures in
-    (countable c.requires _ p.same (rw p.same p.checked) c.take_in-d.ensures).sender
+    (countable-at c.requires _ p.same (rw p.same p.checked) c.take_in-d.ensures).sender
 
 pub returns-clause-taken : goal.returns-clause-taken
 returns-clause-taken c =
     let p = finds-part c.requires.finds _ c.frame_end-z.ensures in
-    let k = countable c.requires _ p.same (rw p.same p.checked) c.take_in-d.ensures in
+    let k = countable-at c.requires _ p.same (rw p.same p.checked) c.take_in-d.ensures in
     let a = c.args in
     λ f. deliver-leaves a.self.now a.queue.now a.out.now a.body.now _ f.found _ _ _ _ _ _ p.same c.take_in-d.ensures (search rules) k.sender
     c.remove.ensures
