@@ -259,7 +259,7 @@ pub record Countable (r₁ : Record) (q : List ℕ) (slot from : ℕ) : Type 0 w
   pub sender : from < 12
   pub count : get_or r₁.deliv from 0 ≤ max_count
 
--- of a record that differs from the finding one in its vector, where that is within the limit at the sender
+-- where some vector finds the slot, and this record's own is within the limit at the sender
 countable-by : {r : Record} {v q : List ℕ} {out body slot : ℕ} → Finds (record r { deliv = v }) q out body slot → (s : List ℕ) → CheckedFrame s
     → {tried : ℕ} {o b o₁ b₁ : List ℕ} {d : Delivered} {r₁ : Record} → TakenIn r s tried o b d r₁ o₁ b₁
     → vector r.deliv d.from ≤ max_count → Countable r₁ q slot d.from

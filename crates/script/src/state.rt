@@ -1,5 +1,5 @@
 //! The state of a script: records and queues, the log of issued frames, and the frame at hand.
-ghost use Rattle.std.specs.Prelude.{◌<◌};
+ghost use Rattle.std.specs.Prelude.{◌≡◌, ◌<◌, length};
 
 use super::frames::{Frame, copy_padded};
 use node::Node;
@@ -120,6 +120,9 @@ pub struct State {
     log: [[u8; Node::MAX_FRAME]; LOG],
     logged: usize,
     pub frame: Frame,
+    // The types say both lengths too; a proof may cite these of any State.
+    ghost whole_places: { length places ≡ 12 },
+    ghost whole_log: { length log ≡ 128 },
 }
 
 impl State {
@@ -154,7 +157,9 @@ impl State {
     /// Puts an issued frame into the next place of the log, and gives its number there, from 1.
     pub fn log(&mut self, frame: &[u8]) -> usize {
         let at = self.logged % LOG;
-        copy_padded(&mut self.log[at], frame);
+        // By a name of its own, since the struct has ghost fields.
+        let log = &mut self.log;
+        copy_padded(&mut log[at], frame);
         self.logged = at + 1;
         self.logged
     }
