@@ -276,12 +276,12 @@ countable-by {r} {q = q} {slot = slot} f s c {d = d} w room =
       count = room;
     }
 
--- the record that finds the slot can count any sender
+-- the record that finds the slot can count the sender of any checked frame
 pub countable : {r : Record} {q : List ℕ} {out body slot : ℕ} → Finds r q out body slot → (s : List ℕ) → CheckedFrame s
     → {tried : ℕ} {o b o₁ b₁ : List ℕ} {d : Delivered} {r₁ : Record} → TakenIn r s tried o b d r₁ o₁ b₁ → Countable r₁ q slot d.from
 countable f s c {d = d} w = countable-by f s c w ((finds-ready f).sound.vector_limit d.from (rw w.told (from-below s c)))
 
--- another record can count the sender that it has room for
+-- a record with room for the sender of the slot's frame can count it
 pub countable-at : {r : Record} {q : List ℕ} {out body slot : ℕ} → FindsAt r q out body slot → (s : List ℕ) → s ≡ frame_at q slot → CheckedFrame s
     → {tried : ℕ} {o b o₁ b₁ : List ℕ} {d : Delivered} {r₁ : Record} → TakenIn r s tried o b d r₁ o₁ b₁ → Countable r₁ q slot d.from
 countable-at f s e c w = countable-by f.finds s c w (rw (w.told, e) f.room)

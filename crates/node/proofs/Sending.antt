@@ -20,7 +20,7 @@ use Rattle.matrix.specs.Matrix.{Matrix, clear, count}
 use Rattle.matrix.specs.Message.{Message, user_message}
 use Rattle.node.specs.Answers.{AfterSend, after_send, send_number}
 use Rattle.node.specs.Calls.{accept_send, refusal, refuse_send, send_call}
-use Rattle.node.specs.CallRefusals.{send_refusal}
+use Rattle.node.specs.CallRefusals.{SendPasses, SendPassesAt, send_refusal}
 use Rattle.node.specs.Record.{broken_record, node_of}
 use Rattle.node.specs.Sizes.{out_size}
 use Rattle.protocol.specs.Answer.{Outcome, accepted, refuse}
@@ -186,3 +186,7 @@ receiver-small k = omega (arith, k.destination, k.sound.range.at_most12)
 pub frame-room : {r : Record} {to class : ℕ} {body : List ℕ} {out : ℕ} → Sendable r to class body out → count (entry r.m) ≤ 121
 frame-room {r} k =
     count_121 r.me (entry r.m) (omega (arith, k.sound.range.below, k.sound.range.at_most12)) k.sound.rules.diagonal k.sound.rules.own
+
+-- what passes at the record passes at a node with its me, n, cap and matrix
+pub passes-at : {r : Record} {to : ℕ} {body : List ℕ} {out : ℕ} → SendPasses r to body out → SendPassesAt r to body out
+passes-at {r} p = record { deliv = r.deliv; held = r.held; class = p.class; passes = p.passes }

@@ -24,8 +24,13 @@ send_refusal r to class body out =
     cond (broken_record r) 2 (cond (ltb out out_size) 3
     (cond (at_limit (node_of r [])) 5 (cond (bad_destination (node_of r []) to) 6 (cond (long_body body) 7 (cond (lacks_right ours class body) 21 0)))))
 
--- a send at a node with this record's me, n, cap and matrix, of this body by some class, meets no check
+-- a send of this body by some class meets no check
 pub record SendPasses (r : Record) (to : ℕ) (body : List ℕ) (out : ℕ) : Type 0 where
+  pub class : ℕ
+  pub passes : send_refusal r to class body out ≡ 0
+
+-- a send at a node with this record's me, n, cap and matrix, of this body by some class, meets no check
+pub record SendPassesAt (r : Record) (to : ℕ) (body : List ℕ) (out : ℕ) : Type 0 where
   pub deliv : List ℕ
   pub held : ℕ
   pub class : ℕ

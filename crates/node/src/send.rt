@@ -5,7 +5,7 @@ ghost use Rattle.protocol.specs.Send.{sending};
 ghost use Rattle.node.specs.Answers.{after_send};
 ghost use Rattle.node.specs.SendAnswer.{Sent as sent};
 ghost use Rattle.node.specs.Calls.{send_call, accept_send};
-ghost use Rattle.node.specs.CallRefusals.{send_refusal, SendPasses};
+ghost use Rattle.node.specs.CallRefusals.{send_refusal, SendPassesAt};
 ghost use Rattle.node.specs.Record.{node_of};
 ghost use Rattle.node.specs.Told.{send_told, told_send};
 
@@ -56,7 +56,7 @@ impl Node {
 
     /// What a send does that meets no check: writes the user frame and then trim's extra frames into `out`, and trims the matrix.
     pub fn issue(&mut self, to: usize, body: &[u8], out: &mut [u8]) -> Issue
-        requires { SendPasses self.old to body.now (length out.old) }
+        requires { SendPassesAt self.old to body.now (length out.old) }
         ensures { after_send (record { answer = sent result.bytes result.extras; node = self.new }) out.new
             ≡ accept_send self.old out.old (sending (node_of self.old []) to body.now) }
     {

@@ -1,6 +1,7 @@
 -- The image is opened, the checks are told, and what the send issued is written. Assumes nothing.
 use native.Mathlib.Omega.{arith}
 use Rattle.refusal.proofs.Laws.{number-none}
+use Rattle.node.proofs.Sending.{passes-at}
 use Rattle.node.proofs.Shared.{passed_on}
 use Rattle.host.proofs.Left.{send_20, send-done, send-ready, send-small, send-why}
 use Rattle.host.proofs.calls.send.Goals as goal
@@ -19,7 +20,7 @@ pub issue-issue-requires : goal.issue-issue-requires
 issue-issue-requires c =
     let ready = send-ready _ _ _ _ _ _ c.in_ok-node.ensures.refusal _ c.in_ok-node.ensures.record.0 _ _
     c.room.ensures c.check_send.ensures c.in_ok-told.ensures in
-    record { deliv = _; held = _; class = c.args.class; passes = ready.passes }
+    passes-at (record { class = c.args.class; passes = ready.passes })
 
 pub overflow_cast-said : goal.overflow_cast-said
 overflow_cast-said c =

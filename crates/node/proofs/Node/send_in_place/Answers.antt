@@ -1,7 +1,7 @@
 -- The refusal, or what the send issues. Assumes nothing.
 use mathlib.Core.Path.{◌∙◌, sym}
 use Rattle.refusal.proofs.Laws.{number-none}
-use Rattle.node.proofs.Sending.{send-accepted, send-refused}
+use Rattle.node.proofs.Sending.{passes-at, send-accepted, send-refused}
 use Rattle.node.proofs.Shared.{passed_on}
 use Rattle.node.proofs.Node.send_in_place.Goals as goal
 
@@ -11,7 +11,7 @@ returns-in_err-check_send c =
     (send-refused _ _ _ _ _ _ c.in_err-check_send.ensures (number-none _))
 
 pub issue-requires : goal.issue-requires
-issue-requires c = record { deliv = _; held = _; class = c.args.class; passes = sym c.in_ok-check_send.ensures }
+issue-requires c = passes-at (record { class = c.args.class; passes = sym c.in_ok-check_send.ensures })
 
 pub returns : goal.returns
 returns c = c.issue.ensures ∙ send-accepted _ _ _ _ _ (sym c.in_ok-check_send.ensures)
